@@ -22,7 +22,7 @@ MOST_CLAUSES, MOST_CHARACTERS = 16, 2_500
 # The public functions whose contracts are longer, by crate. None is today, and none is added.
 LONG_CONTRACTS = {}
 # A line of proofs/ is no longer than this. So many are longer today, and the number may only shrink.
-LONGEST_LINE, LONG_LINES = 300, 40
+LONGEST_LINE, LONG_LINES = 300, 37
 # A statement with fewer words and signs than this may stand twice.
 FEWEST_WORDS = 14
 # In these files names are given by the goals that they answer, and nothing else cites them.
@@ -371,6 +371,19 @@ def lines_of_proofs_are_short(house):
         yield f"crates/*/proofs: {count} lines of over {LONGEST_LINE} characters, and at most {LONG_LINES} may stand"
 
 
+def nothing_is_said_once(house):
+    """No definition has two cases `= Unit {0}`: one last case says of all others that nothing is said of them."""
+    case = re.compile(r"^( *)(\S+) (?:[^=]* )?= Unit \{0\}$")
+    for path, text in house.text.items():
+        if path.endswith(".antt"):
+            last = None
+            for number, line in enumerate(text.split("\n"), 1):
+                found = case.match(line.rstrip())
+                if found and found.groups() == last:
+                    yield f"{path}:{number}: {found[2]} says nothing in another case too"
+                last = found.groups() if found else last if last and line.startswith(f"{last[0]}{last[1]} ") else None
+
+
 def edits_are_few(house):
     """A crate has at most three must-fail edits, and all crates have at most 60."""
     counts = {name: len(glob.glob(f"crates/{name}/must-fail/*.edit")) for name in house.stands}
@@ -423,6 +436,7 @@ LOOKS = (
     statements_stand_once,
     contracts_can_be_read,
     lines_of_proofs_are_short,
+    nothing_is_said_once,
     edits_are_few,
     edits_apply,
     links_lead_somewhere,
