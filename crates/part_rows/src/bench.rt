@@ -17,7 +17,7 @@ use tc_compact::shape_of;
 use tc_component::{Component, Head};
 use tc_jobs::{
     FlushInputs, JobFault, flush_inputs, list_flush, list_merge, merge_inputs, merged_head,
-    name_of_component, name_of_head, remove_file, remove_unshared,
+    remove_file, remove_unshared,
 };
 use tc_list::{ComponentList, Run};
 use tc_log::MAX_NUMBER;
@@ -67,7 +67,7 @@ impl Bench {
             from: made.first,
             to: made.last,
         };
-        let device = settled_file(alloc, &mut self.store, name_of_head(head), &made.bytes)?;
+        let device = settled_file(alloc, &mut self.store, head.file_name(), &made.bytes)?;
         job_outcome(alloc, self.append(alloc, device, head))
     }
 
@@ -77,7 +77,7 @@ impl Bench {
         let made = made_of(alloc, argument)?;
         let run = run_of(made.first, made.last, self.list.len())?;
         let head = merged_head(&self.list, run, made.number, 1);
-        let device = settled_file(alloc, &mut self.store, name_of_head(head), &made.bytes)?;
+        let device = settled_file(alloc, &mut self.store, head.file_name(), &made.bytes)?;
         job_outcome(alloc, self.replace(alloc, device, run, head))
     }
 
@@ -90,7 +90,7 @@ impl Bench {
         let run = run_of(*first, *last, self.list.len())?;
         let mut text = word(alloc, "shared")?;
         for share in merge_inputs(alloc, &self.list, run).ok()? {
-            push_name(&mut text, name_of_component(&share))?;
+            push_name(&mut text, share.file_name())?;
             self.shares.push(share).ok()?;
         }
         Some(text)
@@ -128,7 +128,7 @@ impl Bench {
         } = self;
         write!(text, "listed").ok()?;
         for component in list.as_slice() {
-            push_name(text, name_of_component(component))?;
+            push_name(text, component.file_name())?;
         }
         write!(text, ", main {} {}, ", watch.faults(), watch.reads()).ok()?;
         push_files(alloc, text, store.stop(0).ok()?)

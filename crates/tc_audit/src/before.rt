@@ -18,7 +18,6 @@ ghost use Rattle.tc_audit.specs.Walking.{AreInFront, HoldParts};
 
 use crate::alike::is_alike;
 use crate::law::stored_records_make_contents;
-use crate::older::component_at;
 use crate::stop::{Stop, of_read};
 use std::alloc::{AllocError, Global};
 use tc_compact::{document_meant, round_trip};
@@ -86,7 +85,7 @@ pub(crate) fn before_of<F: Frozen>(
             component: at,
             place,
         } => {
-            let component = component_at(older, at);
+            let component = older.component_at(at);
             // that its names are a dictionary
             let _lawful = component.file_len();
             before_at(component, at, place, of, &mut cursors[at], watch)

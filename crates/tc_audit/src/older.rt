@@ -1,6 +1,6 @@
 //! What was live of a key is taken off.
 
-ghost use Rattle.std.specs.Prelude.{◌≡◌, ◌≤◌, ◌<◌, ℕ, List, IfOk, OnOk, IsErrOf, IsTrue, false, length, slice_get, Some};
+ghost use Rattle.std.specs.Prelude.{◌≡◌, ◌≤◌, ◌<◌, ℕ, List, IfOk, OnOk, IsErrOf, IsTrue, false, length, Some};
 ghost use Rattle.tc_model.specs.Dictionary.{Extends};
 ghost use Rattle.tc_model.specs.Document.{Document, document_shape};
 ghost use Rattle.tc_model.specs.Keyed.{value_of, values_in};
@@ -59,18 +59,10 @@ pub(crate) fn take_off<F: Frozen>(
             component: at,
             place,
         } => {
-            let component = component_at(older, at);
+            let component = older.component_at(at);
             take_off_from(alloc, component, at, place, recount, watch)
         }
     }
-}
-
-/// The component at a position of the list.
-pub(crate) fn component_at<F: Frozen>(list: &ComponentList<F>, at: usize) -> &Component<F>
-    requires { at < length list.now }
-    ensures { slice_get list.now at ≡ Some result.now }
-{
-    &list.as_slice()[at]
 }
 
 /// Takes off the document of the record at a place of the component at a position.

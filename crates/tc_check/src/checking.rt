@@ -35,8 +35,7 @@ use crate::verdict::{Over, Reason, Verdict};
 use std::alloc::Global;
 use tc_audit::{Verdict as Audited, Wrong, audit};
 use tc_bytes::Memory;
-use tc_component::Component;
-use tc_jobs::{inputs_are_newest, name_of_component};
+use tc_jobs::inputs_are_newest;
 use tc_lawful::{audited_disks_are_lawful, loaded_files_hold, short_writes_are_stored};
 use tc_list::{ComponentList, loaded_components_show_contents};
 use tc_log::Writes;
@@ -147,14 +146,7 @@ fn name_at<F: Frozen>(list: &ComponentList<F>, position: usize) -> FileName
     requires { position < length list.now }
     ensures { (component : ComponentState F) → slice_get list.now position ≡ Some component → result ≡ name_of component.index.head }
 {
-    name_of_component(component_at(list, position))
-}
-
-fn component_at<F: Frozen>(list: &ComponentList<F>, position: usize) -> &Component<F>
-    requires { position < length list.now }
-    ensures { slice_get list.now position ≡ Some result.now }
-{
-    &list.as_slice()[position]
+    list.component_at(position).file_name()
 }
 
 /// The logs above components, of which so many documents are live.

@@ -83,6 +83,13 @@ impl<F: Frozen> Component<F> {
         self.loaded.head
     }
 
+    /// The name of its file.
+    pub fn file_name(&self) -> FileName
+        ensures { result ≡ name_of self.now.index.head }
+    {
+        self.loaded.head.file_name()
+    }
+
     /// The version of its file, which is the form of its records: 1 or 2.
     pub fn version(&self) -> u8
         ensures { result ≡ self.now.index.version }

@@ -5,7 +5,7 @@ ghost use Rattle.std.specs.Int.{w32};
 ghost use Rattle.tc_bytes.specs.Reading.{number_at, passing_at};
 ghost use Rattle.tc_component.specs.Layout.{file_size};
 ghost use Rattle.tc_component.specs.Reading.{version_told, head_at, is_magic, interval_at, sizes_at, is_named};
-ghost use Rattle.tc_component.specs.Spelling.{written_version, head_bytes};
+ghost use Rattle.tc_component.specs.Spelling.{written_version, head_bytes, name_of};
 
 use crate::layout::{MAX_NUMBER, RECORDS_PLACE, SLOT_LEN};
 use std::alloc::Global;
@@ -32,6 +32,18 @@ pub struct Head {
     pub count: u32,
     pub from: u64,
     pub to: u64,
+}
+
+impl Head {
+    /// The name of the file that has this header.
+    pub fn file_name(self) -> FileName
+        ensures { result ≡ name_of self }
+    {
+        FileName::Component {
+            from: self.from,
+            to: self.to,
+        }
+    }
 }
 
 /// How many bytes all records have, how many entries there are, and how many bytes each of both sections has.

@@ -12,7 +12,6 @@ ghost use Rattle.tc_jobs.specs.Faults.{AreFiles, AreFilesOr, IfDamaged};
 ghost use Rattle.tc_jobs.specs.Lists.{file_names};
 
 use crate::fault::JobFault;
-use crate::file_names::name_of_component;
 use std::alloc::Global;
 use std::sync::Arc;
 use tc_bytes::Memory;
@@ -107,7 +106,7 @@ fn names_of_files<F: Frozen>(
 {
     let mut names = Vec::new(alloc);
     for component in components {
-        names.push(name_of_component(component))?;
+        names.push(component.file_name())?;
     }
     Ok(names)
 }

@@ -2,7 +2,6 @@
 #![tactic(auto)]
 
 mod fault;
-mod file_names;
 mod flushing;
 mod laws;
 mod listing;
@@ -12,7 +11,6 @@ mod reading;
 mod removing;
 
 pub use fault::{JobFault, of_read};
-pub use file_names::{name_of_component, name_of_head};
 pub use flushing::{FlushInputs, flush_inputs};
 pub use laws::inputs_are_newest;
 pub use listing::{list_flush, list_merge};

@@ -12,7 +12,6 @@ ghost use Rattle.tc_jobs.specs.Faults.{AreBytesOr};
 ghost use Rattle.tc_jobs.specs.Lists.{FirstExtends, GoesBetween, IsListOf, IsOf};
 
 use crate::fault::JobFault;
-use crate::file_names::name_of_component;
 use std::alloc::Global;
 use std::sync::Arc;
 use tc_bytes::Bytes;
@@ -68,7 +67,7 @@ pub fn names_damage<F: Frozen>(alloc: Global, component: &Component<F>) -> JobFa
 {
     match component.names().to_bytes(alloc) {
         Ok(bytes) => JobFault::Damaged(Damage::Bytes {
-            file: name_of_component(component),
+            file: component.file_name(),
             place: component.names_at(),
             bytes: Bytes::of(bytes),
         }),

@@ -18,7 +18,6 @@ ghost use Rattle.tc_jobs.specs.Faults.{AreBytes, IfDamaged, IfHarmed};
 ghost use Rattle.tc_jobs.specs.ReadBack.{ComesHome, IsDamageIn, JudgesFile, has_numbers, own_judged};
 
 use crate::fault::{JobFault, of_read};
-use crate::file_names::{name_of_component, name_of_head};
 use std::alloc::Global;
 use tc_bytes::Bytes;
 use tc_component::{Component, Head, components_are_contents};
@@ -84,7 +83,7 @@ pub fn load_own<F: Frozen>(
     ensures reads { IsOk result → (F.Watch.counts watch.new).reads ≡ next_count (next_count (F.Watch.counts watch.old).reads) }
     ensures watched { IsWatched (IsErrOf result JobFault.Disk) (F.Watch.counts watch.old) (F.Watch.counts watch.new) }
 {
-    let name = name_of_head(head);
+    let name = head.file_name();
     let component = match Component::load(alloc, file, name, watch) {
         Ok(component) => component,
         Err(fault) => return Err(of_read(name, fault)),
@@ -108,7 +107,7 @@ fn foreign<F: Frozen>(alloc: Global, component: Component<F>, watch: &mut F::Wat
     ensures header { IfHarmed result (λ of place bytes. (of ≡ name_of component.index.head) × (place ≡ head_place) × (length bytes ≡ head_size)) }
     ensures watched { IsWatched (result ≡ JobFault.Disk) (F.Watch.counts watch.old) (F.Watch.counts watch.new) }
 {
-    let name = name_of_component(&component);
+    let name = component.file_name();
     let _size = component.file_len();
     let file = component.into_file();
     match bytes_of(alloc, &file, HEAD_PLACE, HEAD_LEN, watch) {

@@ -1,6 +1,6 @@
 //! The list of components.
 
-ghost use Rattle.std.specs.Prelude.{◌≡◌, ◌<◌, ◌≤◌, ◌+◌, List, [], ◌∷◌, ◌++◌, length, map, IfOk, OnOk, OnErr};
+ghost use Rattle.std.specs.Prelude.{◌≡◌, ◌<◌, ◌≤◌, ◌+◌, List, [], ◌∷◌, ◌++◌, length, map, IfOk, OnOk, OnErr, slice_get, Some};
 ghost use Rattle.std.specs.Arc.{arc_value};
 ghost use Rattle.std.specs.List.{AllZip};
 ghost use Rattle.tc_lsm_model.specs.Contents.{Partition, Content};
@@ -66,6 +66,14 @@ impl<F: Frozen> ComponentList<F> {
         ensures follow { Follow 0 self.now }
     {
         self.components.as_slice()
+    }
+
+    /// The component at a position. Takes no memory.
+    pub fn component_at(&self, at: usize) -> &Component<F>
+        requires { at < length self.now }
+        ensures { slice_get self.now at ≡ Some result.now }
+    {
+        &self.as_slice()[at]
     }
 
     /// How many components there are.

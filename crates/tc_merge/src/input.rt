@@ -7,7 +7,7 @@ ghost use Rattle.tc_store.specs.Moments.{LeavesOnly};
 ghost use Rattle.tc_component.specs.Building.{HasRows, IsWrittenRecord};
 ghost use Rattle.tc_component.specs.Fetching.{IsRecordWithin};
 ghost use Rattle.tc_component.specs.Spans.{IsSpan};
-ghost use Rattle.tc_component.specs.Spelling.{Row, written_version, name_of as name_of_head};
+ghost use Rattle.tc_component.specs.Spelling.{Row, written_version};
 ghost use Rattle.tc_merge.specs.Faults.{IfHarmed, IsHarmless, IsHarmOf, IsWatched};
 ghost use Rattle.tc_merge.specs.Inputs.{key_ahead, key_in, rows_from, passed, IsNear};
 ghost use Rattle.tc_merge.specs.Merging.{kept, live_rows, rewritten};
@@ -18,9 +18,9 @@ use std::alloc::Global;
 use std::marker::Model;
 use std::sync::Arc;
 use tc_compact::repack;
-use tc_component::{Builder, Component, Head, RecordCursor, Span};
+use tc_component::{Builder, Component, RecordCursor, Span};
 use tc_record::{NUMBERED_FORM, RecordRef};
-use tc_store::{Device, FileName, Frozen, Store};
+use tc_store::{Device, Frozen, Store};
 
 /// How many entries are looked up at once: directories are larger than a processor's near caches, and of each only a few
 /// bytes are asked for in one step, so that many are fetched while the first of them is waited for.
@@ -211,7 +211,7 @@ fn put_live<S: Store>(
         .cursor
         .read_part(&input.component, begin, count, watch)
     {
-        let file = name_of(input.component.head());
+        let file = input.component.file_name();
         return Err(of_read(file, fault));
     }
     let version = input.component.version();
@@ -295,15 +295,5 @@ fn push<D: Device>(
     match builder.push(key, held, watch) {
         Ok(()) => Ok(()),
         Err(fault) => Err(of_device(fault)),
-    }
-}
-
-/// The name of the file of a component.
-fn name_of(head: Head) -> FileName
-    ensures { result ≡ name_of_head head }
-{
-    FileName::Component {
-        from: head.from,
-        to: head.to,
     }
 }

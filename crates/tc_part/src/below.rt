@@ -21,7 +21,7 @@ ghost use Rattle.tc_part.specs.Reads.{IsCountedLookup};
 
 use crate::fault::PartFault;
 use crate::part::Part;
-use crate::records::{component_at, shape_at};
+use crate::records::shape_at;
 use std::alloc::Global;
 use std::sync::Arc;
 use tc_compact::shape_of;
@@ -125,7 +125,7 @@ impl<S: Store> Part<S> {
                 Err(fault) => Err(fault),
             },
             Below::Listed { component, place } => {
-                let component = component_at(&self.list, component);
+                let component = self.list.component_at(component);
                 match shape_at(alloc, component, place, &mut self.main) {
                     Ok(shape) => Ok(Some(shape)),
                     Err(fault) => Err(fault),

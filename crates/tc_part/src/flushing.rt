@@ -30,7 +30,7 @@ use crate::part::Part;
 use std::alloc::Global;
 use tc_component::Head;
 use tc_flush::{FlushJob, FlushParts};
-use tc_jobs::{FlushInputs, JobFault, flush_inputs, inputs_are_newest, name_of_head};
+use tc_jobs::{FlushInputs, JobFault, flush_inputs, inputs_are_newest};
 use tc_part_model::{flushes_begin, moments_follow, sealed_tables_can_flush};
 use tc_store::Store;
 
@@ -74,7 +74,7 @@ impl<S: Store> Part<S> {
         self.failed = true;
         let head = self.flush_head();
         let inputs = self.sealed_inputs(alloc)?;
-        let device = self.store.fresh(alloc, name_of_head(head), &mut self.main)?;
+        let device = self.store.fresh(alloc, head.file_name(), &mut self.main)?;
         Ok(self.flush_with(inputs, device, head))
     }
 

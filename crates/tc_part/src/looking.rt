@@ -19,7 +19,7 @@ ghost use Rattle.tc_part.specs.Reads.{IsCountedLookup};
 use crate::below::{Below, held_in};
 use crate::fault::PartFault;
 use crate::part::Part;
-use crate::records::{component_at, text_at};
+use crate::records::text_at;
 use std::alloc::Global;
 use tc_bytes::Bytes;
 use tc_list::loaded_components_show_contents;
@@ -137,7 +137,7 @@ impl<S: Store> Part<S> {
                 Err(fault) => Err(fault),
             },
             Below::Listed { component, place } => {
-                let component = component_at(&self.list, component);
+                let component = self.list.component_at(component);
                 match text_at(alloc, component, place, key, &mut self.main) {
                     Ok(text) => Ok(Some(text)),
                     Err(fault) => Err(fault),

@@ -28,7 +28,7 @@ use crate::part::Part;
 use std::alloc::Global;
 use std::sync::Arc;
 use tc_component::{Component, Head};
-use tc_jobs::{merge_inputs, merged_head, name_of_head};
+use tc_jobs::{merge_inputs, merged_head};
 use tc_list::Run;
 use tc_merge::{MergeJob, MergeParts};
 use tc_part_model::{merges_begin, moments_follow, runs_can_merge, told_components_are_loaded};
@@ -96,7 +96,7 @@ impl<S: Store> Part<S> {
     {
         let head = merged_head(&self.list, run, self.number, self.count);
         let components = merge_inputs(alloc, &self.list, run)?;
-        let device = self.store.fresh(alloc, name_of_head(head), &mut self.main)?;
+        let device = self.store.fresh(alloc, head.file_name(), &mut self.main)?;
         Ok(self.merge_with(run, components, device, head))
     }
 

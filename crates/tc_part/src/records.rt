@@ -1,6 +1,6 @@
 //! The record of a document in a component, and what it spells.
 
-ghost use Rattle.std.specs.Prelude.{◌≡◌, ◌<◌, ◌⊎◌, List, Some, length, slice_get, IfOk, IfErr, IfSome, IsErrOf};
+ghost use Rattle.std.specs.Prelude.{◌≡◌, ◌<◌, ◌⊎◌, List, Some, length, IfOk, IfErr, IfSome, IsErrOf};
 ghost use Rattle.std.specs.Result.{IsOk};
 ghost use Rattle.tc_model.specs.Document.{Document, document_shape};
 ghost use Rattle.tc_value.specs.ShapeMeaning.{shape_tree};
@@ -9,7 +9,6 @@ ghost use Rattle.tc_compact.specs.Meant.{IsRecordUnder};
 ghost use Rattle.tc_store.specs.Counted.{IsCountedOnce};
 ghost use Rattle.tc_component.specs.Fetching.{IsPlace, record_at as bytes_of_record, length_at, IsRecordWithin};
 ghost use Rattle.tc_component.specs.Meaning.{IsRecordOfOne};
-ghost use Rattle.tc_component.specs.Spelling.{name_of as name_meant};
 ghost use Rattle.tc_query.specs.Shown.{IsReadOf};
 ghost use Rattle.tc_part.specs.Harms.{IsHarmOf, IsOfRead};
 
@@ -18,19 +17,10 @@ use std::alloc::Global;
 use tc_bytes::Bytes;
 use tc_compact::shape_of;
 use tc_component::{Component, Place};
-use tc_list::ComponentList;
 use tc_record::{RecordFault, RecordRef};
 use tc_record_text::text_of_document;
-use tc_store::{FileName, Frozen};
+use tc_store::Frozen;
 use tc_value::Shape;
-
-/// The component at a position of the list.
-pub(crate) fn component_at<F: Frozen>(list: &ComponentList<F>, at: usize) -> &Component<F>
-    requires { at < length list.now }
-    ensures { slice_get list.now at ≡ Some result.now }
-{
-    &list.as_slice()[at]
-}
 
 /// The shape of the document at a place of a component, by one read. `Damaged` comes where the bytes there are the record of
 /// no document under the names of the component.
@@ -95,7 +85,7 @@ fn record_at<F: Frozen>(
 {
     match component.fetch(alloc, place, watch) {
         Ok(bytes) => Ok(bytes),
-        Err(fault) => Err(of_read(name_of(component), fault)),
+        Err(fault) => Err(of_read(component.file_name(), fault)),
     }
 }
 
@@ -114,16 +104,5 @@ fn no_document<F: Frozen>(
     ensures harmed { IsOfRead result (λ file at bytes. IsHarmOf (λ file. F.content file) component.now file at bytes) }
 {
     let (at, _) = component.record_range(place);
-    of_record(name_of(component), at, bytes, fault)
-}
-
-/// The name of a component's file.
-pub(crate) fn name_of<F: Frozen>(component: &Component<F>) -> FileName
-    ensures { result ≡ name_meant component.now.index.head }
-{
-    let head = component.head();
-    FileName::Component {
-        from: head.from,
-        to: head.to,
-    }
+    of_record(component.file_name(), at, bytes, fault)
 }

@@ -13,7 +13,6 @@ ghost use Rattle.tc_part_model.specs.PartView.{PartView};
 ghost use Rattle.tc_part.specs.Openings.{newest_in};
 
 use crate::part::Part;
-use crate::records::component_at;
 use serde_json::Value;
 use std::alloc::Global;
 use tc_bytes::Memory;
@@ -36,7 +35,7 @@ impl<S: Store> Part<S> {
             let nothing = Schema::empty(alloc);
             return nothing.value(alloc, &names);
         }
-        let newest = component_at(&self.list, count - 1);
+        let newest = self.list.component_at(count - 1);
         newest.schema().value(alloc, newest.names())
     }
 }

@@ -16,7 +16,6 @@ ghost use Rattle.tc_part.specs.Ready.{AreNamed};
 
 use crate::limits::Limits;
 use crate::part::Part;
-use crate::records::component_at;
 use crate::retired::Retired;
 use std::alloc::Global;
 use std::sync::Arc;
@@ -155,7 +154,7 @@ fn names_of<F: Frozen>(alloc: Global, list: &ComponentList<F>) -> Result<Names, 
     if count == 0 {
         return Ok(Names::new(alloc));
     }
-    component_at(list, count - 1).names().copy()
+    list.component_at(count - 1).names().copy()
 }
 
 /// How many documents the newest component counts.
@@ -166,7 +165,7 @@ fn documents_in<F: Frozen>(list: &ComponentList<F>) -> u64
     if count == 0 {
         return 0;
     }
-    component_at(list, count - 1).schema().documents()
+    list.component_at(count - 1).schema().documents()
 }
 
 /// The generation behind that of the newest component.
@@ -178,7 +177,7 @@ fn generation_behind<F: Frozen>(list: &ComponentList<F>) -> u64
     if count == 0 {
         return 1;
     }
-    component_at(list, count - 1).head().to + 1
+    list.component_at(count - 1).head().to + 1
 }
 
 /// So many, or the most that are counted.

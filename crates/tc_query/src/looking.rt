@@ -164,7 +164,7 @@ fn component_at<F: Frozen>(list: &ComponentList<F>, at: usize) -> &Component<F>
     ensures there { slice_get list.now at ≡ Some result.now }
     ensures lawful { IsIndex result.now.index }
 {
-    let component = &list.as_slice()[at];
+    let component = list.component_at(at);
     let _lawful = component.file_len();
     component
 }

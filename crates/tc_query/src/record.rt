@@ -8,7 +8,6 @@ ghost use Rattle.tc_compact.specs.Meant.{IsRecordUnder};
 ghost use Rattle.tc_component.specs.Cursors.{HoldsPart, HasRecord, BeginsAtRecord, record_held};
 ghost use Rattle.tc_component.specs.Fetching.{IsPlace, record_at as bytes_of_record, length_at, IsRecordWithin};
 ghost use Rattle.tc_component.specs.Meaning.{IsRecordOfOne};
-ghost use Rattle.tc_component.specs.Spelling.{name_of as name_meant};
 ghost use Rattle.tc_model.specs.Document.{Document};
 ghost use Rattle.tc_request_model.specs.Paths.{reached};
 ghost use Rattle.tc_request_model.specs.Rows.{row_of as row_reached};
@@ -22,7 +21,7 @@ use std::alloc::Global;
 use tc_command::{Ask, Row};
 use tc_component::{Component, Place, RecordCursor};
 use tc_record::{RecordFault, RecordRef};
-use tc_store::{FileName, Frozen, damaged};
+use tc_store::{Frozen, damaged};
 
 /// The row that an ask gets of a key, whose record stands at a place of a component. A read is made where the cursor does not
 /// hold it. `Damaged` comes where the bytes there are the record of no document under the names of the component.
@@ -78,7 +77,7 @@ fn hold<F: Frozen>(
 {
     match cursor.read(component, place, watch) {
         Ok(()) => Ok(()),
-        Err(fault) => Err(of_read(name_of(component), fault)),
+        Err(fault) => Err(of_read(component.file_name(), fault)),
     }
 }
 
@@ -100,19 +99,8 @@ fn no_document<F: Frozen>(
     match fault {
         RecordFault::NotARecord => {
             let (at, _) = component.record_range(place);
-            of_read(name_of(component), damaged(alloc, at as usize, bytes))
+            of_read(component.file_name(), damaged(alloc, at as usize, bytes))
         }
         RecordFault::Memory => QueryFault::Memory,
-    }
-}
-
-/// The name of a component's file.
-fn name_of<F: Frozen>(component: &Component<F>) -> FileName
-    ensures { result ≡ name_meant component.now.index.head }
-{
-    let head = component.head();
-    FileName::Component {
-        from: head.from,
-        to: head.to,
     }
 }

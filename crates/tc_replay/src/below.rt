@@ -1,6 +1,6 @@
 //! The shape of what a key has below the logs.
 
-ghost use Rattle.std.specs.Prelude.{◌≡◌, ◌<◌, ◌⊎◌, true, Some, None, is_some, length, slice_get, option_map, IfErr, IfOk, IsErrOf};
+ghost use Rattle.std.specs.Prelude.{◌≡◌, ◌<◌, ◌⊎◌, true, Some, None, is_some, length, option_map, IfErr, IfOk, IsErrOf};
 ghost use Rattle.tc_model.specs.Keyed.{value_of};
 ghost use Rattle.tc_value.specs.ShapeMeaning.{shape_tree};
 ghost use Rattle.tc_list.specs.Lookups.{HaveNone};
@@ -11,7 +11,6 @@ ghost use Rattle.tc_replay.specs.Replays.{HandsBelow};
 
 use crate::fault::of_read;
 use std::alloc::Global;
-use tc_component::Component;
 use tc_jobs::JobFault;
 use tc_list::{ComponentList, Whereabouts, loaded_components_show_contents};
 use tc_memory::Memtable;
@@ -34,21 +33,13 @@ pub(crate) fn shape_below<F: Frozen>(
     match list.find(key) {
         Whereabouts::Absent => Ok(None),
         Whereabouts::At { component, place } => {
-            let component = component_at(list, component);
+            let component = list.component_at(component);
             match shape_at(alloc, component, place, watch) {
                 Ok(shape) => Ok(Some(shape)),
                 Err(fault) => Err(of_read(fault)),
             }
         }
     }
-}
-
-/// The component at a position of the list.
-fn component_at<F: Frozen>(list: &ComponentList<F>, at: usize) -> &Component<F>
-    requires { at < length list.now }
-    ensures { slice_get list.now at ≡ Some result.now }
-{
-    &list.as_slice()[at]
 }
 
 /// The shape below that a new entry of a table keeps. An entry that is there keeps its own, so that none is looked for.

@@ -45,7 +45,7 @@ use std::alloc::Global;
 use std::sync::Arc;
 use tc_component::{Head, components_are_contents};
 use tc_flush::{FlushJob, FlushOut, FlushParts, lists_are_counted};
-use tc_jobs::{FlushInputs, JobFault, inputs_are_newest, list_flush, name_of_head};
+use tc_jobs::{FlushInputs, JobFault, inputs_are_newest, list_flush};
 use tc_list::ComponentList;
 use tc_log::Writes;
 use tc_memory::tables_keep_documents;
@@ -164,7 +164,7 @@ fn begin_flush<S: Store>(
     let _entries = table.len();
     let sealed = Arc::new(alloc, table.seal())?;
     let inputs = inputs_over(alloc, &sealed, list, head)?;
-    let device = store.fresh(alloc, name_of_head(head), watch)?;
+    let device = store.fresh(alloc, head.file_name(), watch)?;
     Ok(Begun { inputs, device })
 }
 

@@ -16,7 +16,7 @@ use std::alloc::Global;
 use std::sync::Arc;
 use tc_bytes::Memory;
 use tc_component::{Component, Head};
-use tc_jobs::{FlushInputs, JobFault, flush_inputs, name_of_component};
+use tc_jobs::{FlushInputs, JobFault, flush_inputs};
 use tc_list::ComponentList;
 use tc_memory::Sealed;
 use tc_store::{Damage, FileName, FileNames, Frozen};
@@ -86,7 +86,7 @@ fn names_of_files<F: Frozen>(
 {
     let mut names = Vec::new(alloc);
     for component in components {
-        names.push(name_of_component(component))?;
+        names.push(component.file_name())?;
     }
     Ok(names)
 }

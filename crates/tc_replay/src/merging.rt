@@ -32,7 +32,7 @@ ghost use Rattle.tc_replay.specs.Openings.{IsKeptWriting, IsOpening};
 use std::alloc::Global;
 use std::sync::Arc;
 use tc_component::{Component, Head, components_are_contents};
-use tc_jobs::{JobFault, list_merge, merge_inputs, merged_head, name_of_head};
+use tc_jobs::{JobFault, list_merge, merge_inputs, merged_head};
 use tc_list::{ComponentList, Run};
 use tc_merge::{MergeFault, MergeJob, MergeOut, MergeParts};
 use tc_store::Store;
@@ -134,7 +134,7 @@ fn begin_merge<S: Store>(
     ensures watched { IsWatched (IsErrOf result JobFault.Disk) (S.Watch.counts watch.old) (S.Watch.counts watch.new) }
 {
     let components = merge_inputs(alloc, list, run)?;
-    let device = store.fresh(alloc, name_of_head(head), watch)?;
+    let device = store.fresh(alloc, head.file_name(), watch)?;
     Ok(Begun { components, device })
 }
 

@@ -6,4 +6,4 @@ pub returns : goal.returns
 returns g c = λ component here.
     let there = c.component_at.ensures in
     let same : c.component_at.result.now ≡ component = cc in
-    c.name_of_component.ensures ∙ ap (λ m. name_of m.index.head) same
+    c.file_name.ensures ∙ ap (λ m. name_of m.index.head) same

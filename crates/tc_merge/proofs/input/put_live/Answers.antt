@@ -25,8 +25,8 @@ returns-in-Err-clause-harmed g c =
     let fault = c.in-Err.fault in
     let read : c.deref.result.now ≡ m = c.deref.ensures ∙ ap (λ i. i.component) c.input.view_is in
     let named : c.deref-in-Err.result.now ≡ m = c.deref-in-Err.ensures ∙ ap (λ i. i.component) c.input.view_is in
-    read_harm (λ f. g.S.Frozen.Frozen.content f) m c.requires.entry.0 e fault c.of_read.result c.name_of-file.result c.requires.entry.1 c.requires.live
-    (c.name_of-file.ensures ∙ ap name_of (c.head.ensures ∙ ap (λ k. k.index.head) named))
+    read_harm (λ f. g.S.Frozen.Frozen.content f) m c.requires.entry.0 e fault c.of_read.result c.file_name-file.result c.requires.entry.1 c.requires.live
+    (c.file_name-file.ensures ∙ ap (λ k. name_of k.index.head) named)
     (subst (λ k. IfDamaged {X = Unit {0}} (Err fault) (λ at kept. IfSome (g.S.Frozen.Frozen.content k.file) (λ bytes. kept ≡ take e.count (drop e.begin bytes)))) read c.in-Err.ensures.told)
     (subst (λ k. IfDamaged {X = Unit {0}} (Err fault) (λ at kept. (at ≡ e.begin) × (length kept ≡ e.count) × (IsRecordWithin k.index.version (length k.index.names) kept → ⊥))) read c.in-Err.ensures.damaged)
     c.of_read.ensures.harmed

@@ -12,7 +12,7 @@ returns-clause-harmed g c =
     (λ file at bytes is. record {
       entry = c.args.place;
       there = c.requires.place;
-      file_is = is.0 ∙ c.name_of.ensures;
+      file_is = is.0 ∙ c.file_name.ensures;
       place_is = is.1 ∙ c.record_range-at.ensures.begin;
       long = subst (λ b. length b ≡ length_at component.index.slots c.args.place.at) (sym is.2) c.requires.long;
       broken = inr (λ d. subst (λ b. IsRecordUnder component.index.names d b → ⊥) (sym is.2) (c.requires.cause is.3 d));

@@ -14,7 +14,7 @@ returns-in-NotARecord-clause-harmed g c =
     record {
       entry = c.args.place;
       there = c.requires.place;
-      file_is = is.0 ∙ c.name_of.ensures;
+      file_is = is.0 ∙ c.file_name.ensures;
       place_is = given.0 ∙ c.record_range-at.ensures.begin;
       long = subst (λ b. length b ≡ length_at component.index.slots c.args.place.at) (sym given.1) c.requires.long;
       broken = inr (λ d. subst (λ b. IsRecordUnder component.index.names d b → ⊥) (sym given.1) (c.requires.cause c.in-NotARecord.is d));

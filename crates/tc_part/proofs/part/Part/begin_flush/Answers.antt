@@ -45,14 +45,14 @@ fresh-requires g c =
     let sealed = sym (still_some arc_value c.self.inside.sealed) ∙ ap (λ s. is_some s.sealed) c.self.view_is ∙ c.requires.sealed in
     let behind = c.self.invariant.behind sound ∙ ap (active_generation c.self.inside.list) sealed in
     let own = subst (λ s. HasOwnFiles (told g.S.Store.history g.S.Device.Device.history g.S.Frozen.Frozen.content s)) (sym c.self.view_is) c.requires.own in
-    let named : c.name_of_head.result ≡ Component (c.self.inside.generation - 1) (c.self.inside.generation - 1) = c.name_of_head.ensures ∙ ap name_of c.flush_head-head.ensures in
+    let named : c.file_name.result ≡ Component (c.self.inside.generation - 1) (c.self.inside.generation - 1) = c.file_name.ensures ∙ ap name_of c.flush_head-head.ensures in
     subst (λ name. IfTold (g.S.Store.history c.self.inside.store) (λ disk. IsThere (disk name) → ⊥)) (sym named) (flush_is_free g.S.Frozen.Frozen.content t c.self.inside.list refl none behind own)
 
 pub returns-in_err-device-clause-moments : goal.returns-in_err-device-clause-moments
 returns-in_err-device-clause-moments g c =
     let none = ap (λ s. s.flushing) c.self.view_is ∙ c.requires.none_out in
     let table = table_in _ (ap (λ s. is_some s.sealed) c.self.view_is ∙ c.requires.sealed) in
-    let named : c.name_of_head.result ≡ Component (c.self.inside.generation - 1) (c.self.inside.generation - 1) = c.name_of_head.ensures ∙ ap name_of c.flush_head-head.ensures in
+    let named : c.file_name.result ≡ Component (c.self.inside.generation - 1) (c.self.inside.generation - 1) = c.file_name.ensures ∙ ap name_of c.flush_head-head.ensures in
     let failed = subst (λ name. FailsMaking name (g.S.Store.history c.self.inside.store) (g.S.Store.history c.fresh.new.self)) named c.in_err-device.ensures.failed in
     rw (← c.self.view_is) λ p is. c.moments_follow.ensures.before (told_in is) p (flushing_part p) _ (c.flushes_begin.ensures.not_made_moments _ p table.0 _ is table.1 none failed)
 
@@ -60,7 +60,7 @@ pub returns-in_err-device-clause-failed : goal.returns-in_err-device-clause-fail
 returns-in_err-device-clause-failed g c =
     let none = ap (λ s. s.flushing) c.self.view_is ∙ c.requires.none_out in
     let table = table_in _ (ap (λ s. is_some s.sealed) c.self.view_is ∙ c.requires.sealed) in
-    let named : c.name_of_head.result ≡ Component (c.self.inside.generation - 1) (c.self.inside.generation - 1) = c.name_of_head.ensures ∙ ap name_of c.flush_head-head.ensures in
+    let named : c.file_name.result ≡ Component (c.self.inside.generation - 1) (c.self.inside.generation - 1) = c.file_name.ensures ∙ ap name_of c.flush_head-head.ensures in
     let failed = subst (λ name. FailsMaking name (g.S.Store.history c.self.inside.store) (g.S.Store.history c.fresh.new.self)) named c.in_err-device.ensures.failed in
     rw (← c.self.view_is) (err_always c.from_residual-in_err-device.result _ (λ p is. c.flushes_begin.ensures.not_made_as _ _ p table.0 is table.1 none refl refl refl failed))
 
@@ -70,7 +70,7 @@ returns-clause-begins g c =
     let none = ap (λ s. s.flushing) c.self.view_is ∙ c.requires.none_out in
     let table = table_in _ (ap (λ s. is_some s.sealed) c.self.view_is ∙ c.requires.sealed) in
     let own = subst (λ s. HasOwnFiles (told g.S.Store.history g.S.Device.Device.history g.S.Frozen.Frozen.content s)) (sym c.self.view_is) c.requires.own in
-    let named : c.name_of_head.result ≡ Component (c.self.inside.generation - 1) (c.self.inside.generation - 1) = c.name_of_head.ensures ∙ ap name_of c.flush_head-head.ensures in
+    let named : c.file_name.result ≡ Component (c.self.inside.generation - 1) (c.self.inside.generation - 1) = c.file_name.ensures ∙ ap name_of c.flush_head-head.ensures in
     let sound : c.self.inside.failed ≡ false = ap (λ s. s.failed) c.self.view_is ∙ c.requires.sound in
     let same = c.flush_with.ensures.same in
     let job = c.flush_with.ensures.job in
@@ -103,7 +103,7 @@ pub returns-clause-moments : goal.returns-clause-moments
 returns-clause-moments g c =
     let none = ap (λ s. s.flushing) c.self.view_is ∙ c.requires.none_out in
     let table = table_in _ (ap (λ s. is_some s.sealed) c.self.view_is ∙ c.requires.sealed) in
-    let named : c.name_of_head.result ≡ Component (c.self.inside.generation - 1) (c.self.inside.generation - 1) = c.name_of_head.ensures ∙ ap name_of c.flush_head-head.ensures in
+    let named : c.file_name.result ≡ Component (c.self.inside.generation - 1) (c.self.inside.generation - 1) = c.file_name.ensures ∙ ap name_of c.flush_head-head.ensures in
     rw (← c.self.view_is, c.flush_with.ensures.same, c.in_ok-device.ensures.made, named) λ p is. c.moments_follow.ensures.behind (told_in is) p (flushing_part p) _ (c.flushes_begin.ensures.moments _ p table.0 is table.1 none)
 
 pub returns-in_err-device-clause-order : goal.returns-in_err-device-clause-order
@@ -118,11 +118,11 @@ pub returns-in_err-device-clause-devices : goal.returns-in_err-device-clause-dev
 returns-in_err-device-clause-devices g c =
     let t = told g.S.Store.history g.S.Device.Device.history g.S.Frozen.Frozen.content (left_of c.self.view_is) in
     let new = g.S.Store.history c.fresh.new.self in
-    rw (← c.self.view_is) (out_on t new (not_made_in c.name_of_head.result t.disks new c.in_err-device.ensures.failed))
+    rw (← c.self.view_is) (out_on t new (not_made_in c.file_name.result t.disks new c.in_err-device.ensures.failed))
 
 pub returns-clause-devices : goal.returns-clause-devices
 returns-clause-devices g c =
-    let named : c.name_of_head.result ≡ Component (c.self.inside.generation - 1) (c.self.inside.generation - 1) = c.name_of_head.ensures ∙ ap name_of c.flush_head-head.ensures in
+    let named : c.file_name.result ≡ Component (c.self.inside.generation - 1) (c.self.inside.generation - 1) = c.file_name.ensures ∙ ap name_of c.flush_head-head.ensures in
     let same = c.flush_with.ensures.same in
     let disks = ap (λ (x : PartState _ _ _ _). g.S.Store.history x.store) same ∙ c.in_ok-device.ensures.made ∙ ap (λ name. makes name (g.S.Store.history c.self.inside.store)) named in
     rw (← c.self.view_is)
@@ -136,7 +136,7 @@ pub returns-in_err-inputs-clause-untold : goal.returns-in_err-inputs-clause-unto
 returns-in_err-inputs-clause-untold g c = rw (← c.self.view_is) λ untold. untold
 
 pub returns-in_err-device-clause-untold : goal.returns-in_err-device-clause-untold
-returns-in_err-device-clause-untold g c = rw (← c.self.view_is) (unmade_untold c.name_of_head.result (g.S.Store.history c.self.inside.store) (g.S.Store.history c.fresh.new.self) c.in_err-device.ensures.failed)
+returns-in_err-device-clause-untold g c = rw (← c.self.view_is) (unmade_untold c.file_name.result (g.S.Store.history c.self.inside.store) (g.S.Store.history c.fresh.new.self) c.in_err-device.ensures.failed)
 
 pub returns-clause-untold : goal.returns-clause-untold
-returns-clause-untold g c = rw (← c.self.view_is, c.flush_with.ensures.same, c.in_ok-device.ensures.made) (ap (makes c.name_of_head.result))
+returns-clause-untold g c = rw (← c.self.view_is, c.flush_with.ensures.same, c.in_ok-device.ensures.made) (ap (makes c.file_name.result))
