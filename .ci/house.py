@@ -70,8 +70,12 @@ class House:
                 self.again += [(number, name)] if name in self.stands else []
                 self.stands[name], self.layers[name], self.lines[name] = below.split(), layer, number
 
+        self.by_crate = collections.defaultdict(dict)
+        for path, text in self.text.items():
+            self.by_crate[path.split("/")[1]][path] = text
+
     def of(self, crate):
-        return {it: text for it, text in self.text.items() if it.split("/")[1] == crate}
+        return self.by_crate[crate]
 
 
 def crates_go_upward(house):
@@ -261,7 +265,10 @@ def names_are_used(house):
 def steps_are_used(house):
     """Each function behind a `where` is used."""
     words = {path: collections.Counter(WORD.findall(text)) for path, text in house.text.items()}
-    every = sum(words.values(), collections.Counter())
+    # one sum that grows: adding counters up makes a new one each time
+    every = collections.Counter()
+    for counted in words.values():
+        every.update(counted)
     for path, text in house.text.items():
         if not path.endswith(".antt") or path.endswith((*ANSWERS, "Lib.antt")):
             continue
