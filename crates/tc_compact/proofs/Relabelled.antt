@@ -5,7 +5,7 @@ use Rattle.tc_model.specs.Document.{Name, Document, Scalar, IsScalar, IsTreeOf, 
 use Rattle.tc_record.specs.Preorder.{Token, tokens_of}
 use Rattle.tc_record.specs.Record.{NumberedTree, labels, joined, spelling_of, record_in, record_bytes, record_of, numbered_record_in, IsNumberedTree, AreNumberedItems, AreNumberedMembers}
 use Rattle.tc_model.specs.Stored.{IsObject}
-use Rattle.tc_record.specs.Walk.{name, number}
+use Rattle.tc_record.specs.Walk.{Key, name, number}
 use Rattle.tc_record.specs.Borrowed.{numbered_tokens}
 use Rattle.tc_record.proofs.Spelled.{slot_of, name_of, slots, names}
 use Rattle.tc_record.proofs.Keyed.{retoken, preorder-relabel, depth-relabel, labels-retoken, record_in-retoken, record-retoken, record_of-keyed, record_in-numbered}
@@ -101,6 +101,14 @@ module _ {L : Type 0} (g : L → Name) (ts : List (Token L Scalar)) where
 
   pub names_in-to_names : names_in (map (retoken (λ l. name (g l))) ts) ≡ map g (labels ts)
   names_in-to_names = ap (flat_map key_names) (labels-retoken (λ l. name (g l)) ts) ∙ name_keys g (labels ts)
+
+-- tokens whose labels are names carry these
+pub names_in-labels : (ts : List (Token Key Scalar)) (ns : List Name) → labels ts ≡ map name ns → names_in ts ≡ ns
+names_in-labels ts ns same = ap (flat_map key_names) same ∙ each ns
+  where
+    each : (ns : List Name) → flat_map key_names (map name ns) ≡ ns
+    each [] = refl
+    each (n ∷ ns) = ap (λ more. n ∷ more) (each ns)
 
 -- the numbered tokens of a document
 pub tokens-numbered : (f : Name → ℕ) (d : Document) → numbered_tokens (relabel f (λ s. s) d) ≡ map (retoken (λ n. number (f n))) (tokens_of d)

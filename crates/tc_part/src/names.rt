@@ -1,29 +1,28 @@
 //! The names of a document that are not taken yet.
 
 ghost use Rattle.std.specs.List.{AllByRecursion};
-ghost use Rattle.std.specs.Prelude.{◌≡◌, ◌<◌, ◌+◌, ◌^◌, ◌++◌, length, IfOk, OnOk, IsTrue, Some};
+ghost use Rattle.std.specs.Prelude.{◌≡◌, ◌<◌, ◌+◌, ◌^◌, ◌++◌, length, IfOk, OnOk, IsTrue, Some, true};
 ghost use Rattle.tc_model.specs.Dictionary.{all_learned, learned, number_of};
 ghost use Rattle.tc_compact.specs.Slots.{names_in};
 
 use std::alloc::Global;
 use tc_bytes::Memory;
 use tc_names::Names;
-use tc_record::{Label, RecordRef};
+use tc_record::RecordRef;
 
 /// The distinct names of a record that are not taken, in the order in which they come. Takes no memory where there are
 /// none, and errs only for want of memory.
 pub(crate) fn fresh_in(alloc: Global, of: &RecordRef<'_>, taken: &Names) -> Result<Names, Memory>
+    requires named { of.now.named ≡ true }
     requires short { AllByRecursion (λ name. length name < 2 ^ 32) (names_in of.now.tokens) }
     requires room { length (all_learned taken.now (names_in of.now.tokens)) < 2 ^ 32 + length taken.now }
     ensures { IfOk result (λ fresh. taken.now ++ fresh ≡ all_learned taken.now (names_in of.now.tokens)) }
 {
     let mut fresh = Names::new(alloc);
     let mut guess = Guess::at_front();
-    let mut cursor = of.cursor();
-    while let Some(token) = cursor.next() {
-        if let Label::Name(name) = token.label {
-            learn_unless_taken(name, taken, &mut guess, &mut fresh)?;
-        }
+    let mut names = of.names();
+    while let Some(name) = names.next() {
+        learn_unless_taken(name, taken, &mut guess, &mut fresh)?;
     }
     Ok(fresh)
 }
@@ -99,15 +98,14 @@ fn has_number(names: &Names, name: &str, number: u32) -> bool
 
 /// Takes the names of a record. Errs only for want of memory.
 pub(crate) fn take_names(of: &RecordRef<'_>, taken: &mut Names) -> Result<(), Memory>
+    requires named { of.now.named ≡ true }
     requires short { AllByRecursion (λ name. length name < 2 ^ 32) (names_in of.now.tokens) }
     requires room { length (all_learned taken.old (names_in of.now.tokens)) < 2 ^ 32 }
     ensures { OnOk result (taken.new ≡ all_learned taken.old (names_in of.now.tokens)) }
 {
-    let mut cursor = of.cursor();
-    while let Some(token) = cursor.next() {
-        if let Label::Name(name) = token.label {
-            taken.learn(name)?;
-        }
+    let mut names = of.names();
+    while let Some(name) = names.next() {
+        taken.learn(name)?;
     }
     Ok(())
 }

@@ -33,4 +33,5 @@ pub mod OneDocument
 pub mod StoredRecords
 pub mod KnownWalks
 mod Told
+mod CutNames
 mod WholeTexts

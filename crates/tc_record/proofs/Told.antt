@@ -19,7 +19,7 @@ use Rattle.tc_record.specs.declared.sections.Sections.{Sections}
 use Rattle.tc_record.proofs.Found.{tokens_found}
 use Rattle.tc_record.proofs.ColumnLaws.{no_columns}
 use Rattle.tc_record.proofs.Walks.{with_tokens}
-use Rattle.tc_record.proofs.Spelled.{slot_of, slots, spelled_fixed, spelled_lengths, spelled_texts, spelled_slots}
+use Rattle.tc_record.proofs.Spelled.{slot_of, slots, names, spelled_fixed, spelled_lengths, spelled_texts, spelled_slots, spelled_names}
 use Rattle.tc_record.proofs.Keyed.{preorder-relabel, labels-retoken, slots-numbered, slots_of-numbered}
 use Rattle.tc_record.proofs.Cutting.{sections_found}
 use Rattle.tc_record.proofs.Placed.{length-elements_from}
@@ -47,6 +47,9 @@ texts_held bytes s held each cut_is is some = ap (λ (c : walk.Columns). c.texts
 
 pub lengths_held : (bytes : List ℕ) (s : Sections) (held : Option Tokens) → IsBytes bytes → cut.sections_in bytes ≡ Some (sections_of s) → tokens_held s ≡ held → true ≡ is_some held → numbers_of s.columns.lengths ≡ map length (texts (unwrap_or held []))
 lengths_held bytes s held each cut_is is some = ap (λ (c : walk.Columns). c.lengths) (columns_held bytes s held each cut_is is some) ∙ spelled_lengths (unwrap_or held [])
+
+pub names_held : (bytes : List ℕ) (s : Sections) (held : Option Tokens) → IsBytes bytes → cut.sections_in bytes ≡ Some (sections_of s) → tokens_held s ≡ held → true ≡ is_some held → s.columns.names.now ≡ names (unwrap_or held [])
+names_held bytes s held each cut_is is some = ap (λ (c : walk.Columns). c.names) (columns_held bytes s held each cut_is is some) ∙ spelled_names (unwrap_or held [])
 
 -- the slots of a record without names are its numbers
 pub numbers_held : (tokens : Tokens) (n : NumberedTree) (ks : List ℕ) → ks ≡ slots tokens → tokens ≡ numbered_tokens n → ks ≡ labels (tokens_of n)
@@ -115,7 +118,7 @@ greatest_below limit (k ∷ ks) all = under (length ks) (greatest (k ∷ ks)) (b
     below k (m ∷ ks) all = omega (arith, all.0, below m ks all.1)
 
 -- the labels of a record with names, and of one with numbers
-labels_named : (d : Document) → labels (named_tokens d) ≡ map name (labels (tokens_of d))
+pub labels_named : (d : Document) → labels (named_tokens d) ≡ map name (labels (tokens_of d))
 labels_named d = ap labels (preorder-relabel name d None) ∙ labels-retoken name (tokens_of d)
 
 labels_numbered : (n : NumberedTree) → labels (numbered_tokens n) ≡ map number (labels (tokens_of n))

@@ -8,6 +8,7 @@ pub mod Widths
 pub mod Written
 pub mod Walk
 pub mod NumbersLeft
+pub mod NameColumn
 pub mod WalkView
 pub mod Moves
 pub mod Stack

@@ -39,7 +39,7 @@ pub(crate) enum Level<'a> {
 
 /// So many bytes of a text, if a character ends there: just then they are UTF-8.
 #[inline(always)]
-fn str_at(text: &str, count: u32) -> Option<(&str, &str)>
+pub(crate) fn str_at(text: &str, count: u32) -> Option<(&str, &str)>
     ensures { option_map (λ x. (x.0.now, x.1.now)) result ≡ utf8_at count text.now }
 {
     match text.split_at_checked(count as usize) {

@@ -6,12 +6,14 @@ ghost use Rattle.tc_model.specs.Document.{Document};
 ghost use Rattle.tc_record.specs.Preorder.{tokens_of};
 ghost use Rattle.tc_record.specs.Record.{tags, fixed, texts, labels, greatest, joined, NumberedTree, IsNumberedForm, IsRecordOf, IsNumberedRecordIn};
 ghost use Rattle.tc_record.specs.Sections.{are_below};
+ghost use Rattle.tc_record.specs.Walk.{name};
 ghost use Rattle.tc_record.specs.Borrowed.{SpellsNumbers, Spells, IsRecord, IsBelow, named_tokens, numbered_tokens};
 
 use crate::column::Column;
 use crate::cursor::Cursor;
 use crate::judging::has_tokens;
 use crate::judging_numbers::has_numbered_tokens;
+use crate::names_left::NamesLeft;
 use crate::reader::Format;
 use crate::sections::{Sections, sections_of_record};
 use crate::walking::Walk;
@@ -147,6 +149,15 @@ impl<'a> RecordRef<'a> {
         ensures { result.now ≡ tags self.now.tokens }
     {
         self.sections.tags
+    }
+
+    /// The names of the members, where they carry names. Takes no memory, and looks at no token.
+    pub fn names(&self) -> NamesLeft<'a>
+        requires { self.now.named ≡ true }
+        ensures { labels self.now.tokens ≡ map name result }
+    {
+        let columns = self.sections.columns.known();
+        NamesLeft::of(columns.slots, columns.names)
     }
 
     /// The slots of the members: of a record without names their numbers. Takes no memory.

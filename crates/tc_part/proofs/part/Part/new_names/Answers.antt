@@ -10,6 +10,9 @@ use Rattle.tc_plain_model.specs.Store.{names_with}
 use Rattle.tc_part.proofs.Refusals.{counted, none_new}
 use Rattle.tc_part.proofs.part.Part.new_names.Goals as goal
 
+pub fresh_in-requires-clause-named : goal.fresh_in-requires-clause-named
+fresh_in-requires-clause-named g c = (c.known.ensures.document c.requires.document c.requires.is_record).0
+
 pub fresh_in-requires-clause-short : goal.fresh_in-requires-clause-short
 fresh_in-requires-clause-short g c =
     let stored = c.requires in

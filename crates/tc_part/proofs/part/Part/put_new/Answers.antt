@@ -9,6 +9,11 @@ use Rattle.tc_plain_model.specs.Store.{names_with}
 use Rattle.tc_part_model.specs.PartState.{PartState}
 use Rattle.tc_part.proofs.part.Part.put_new.Goals as goal
 
+pub take_names-requires-clause-named : goal.take_names-requires-clause-named
+take_names-requires-clause-named g c =
+    let stored = c.requires.record in
+    (c.known.ensures.document stored.document (rw c.as_slice.ensures.same stored.is_record)).0
+
 pub take_names-requires-clause-short : goal.take_names-requires-clause-short
 take_names-requires-clause-short g c =
     let stored = c.requires.record in
