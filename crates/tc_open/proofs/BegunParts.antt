@@ -22,7 +22,7 @@ use Rattle.tc_part.specs.declared.limits.Limits.{Limits}
 use Rattle.tc_part.specs.FilesOut.{HoldsDevices, LogIsOut, OnlyOut}
 use Rattle.tc_part.specs.OwnFiles.{HasOwnFiles}
 use Rattle.tc_part_model.specs.PartState.{AreTold, IsTold, PartState, told, told_component}
-use Rattle.tc_replay.specs.Openings.{AreIn}
+use Rattle.tc_open.specs.BeingOpened.{AreIn}
 use Rattle.tc_open.specs.declared.fault.OpenCause.{OpenCause}
 use Rattle.tc_open.specs.declared.fault.OpenCause.TheVariants.{Disk as DiskFault, Damaged, Layout, Spent, Memory}
 use Rattle.tc_open.specs.Answered.{begun_part, Begins, GivesBack, HasOnlyThese}

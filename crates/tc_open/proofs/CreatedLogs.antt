@@ -13,7 +13,7 @@ use Rattle.tc_log.specs.declared.head.LogHead.{LogHead}
 use Rattle.tc_log.specs.Spelling.{log_at_rest}
 use Rattle.tc_part_model.specs.Calls.{Creates, HasCreated}
 use Rattle.tc_part_model.specs.PartState.{IsTold}
-use Rattle.tc_replay.proofs.ToldMoments.{device_tells, tells_on}
+use Rattle.tc_open.proofs.ToldMoments.{device_tells, tells_on}
 
 -- of a device that the store made, where it tells and where it does not
 pub made_creates : (head : LogHead) (name : FileName) (disks : List Disk) (device new : List DiskFile) → device ≡ fresh_file_at name disks

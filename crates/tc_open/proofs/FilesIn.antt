@@ -19,11 +19,11 @@ use Rattle.tc_part_model.specs.Calls.{Creates}
 use Rattle.tc_part_model.specs.PartState.{IsTold}
 use Rattle.tc_part_model.proofs.DeviceFiles.{comes_untold}
 use Rattle.tc_recover.specs.Files.{takes_all}
-use Rattle.tc_replay.specs.FlushedLogs.{IsFlushGivenUp}
-use Rattle.tc_replay.specs.Openings.{AreIn}
+use Rattle.tc_open.specs.FlushedLogs.{IsFlushGivenUp}
+use Rattle.tc_open.specs.BeingOpened.{AreIn}
 use Rattle.tc_open.specs.FirstLog.{FailsCreating}
 use Rattle.tc_open.proofs.FilesRead.{taken_in}
-use Rattle.tc_replay.proofs.ToldMoments.{tells_since}
+use Rattle.tc_open.proofs.ToldMoments.{tells_since}
 
 -- ---- files that are taken, and that are removed
 

@@ -22,7 +22,7 @@ use Rattle.tc_recover.specs.Loads.{is_above, is_log}
 use Rattle.tc_recover.specs.Opening.{AreAllTaken, IsReadOf}
 use Rattle.tc_recover.specs.Sorting.{Follow, logs_above, open_names}
 use Rattle.tc_recover.proofs.Members.{member_cases, member_first, member_further, no_member}
-use Rattle.tc_replay.specs.Openings.{AreIn}
+use Rattle.tc_open.specs.BeingOpened.{AreIn}
 use Rattle.tc_open.specs.Resting.{AreOwn, IsTaken}
 use Rattle.tc_open.specs.Steps.{IsLogUpTo}
 

@@ -29,7 +29,7 @@ use Rattle.tc_part_model.proofs.StartedParts.{opening_ends}
 use Rattle.tc_part_model.proofs.ToldFiles.{wasted}
 use Rattle.tc_open.specs.FirstLog.{EachStarts, FailsCreating, IsStarting, MakesLog, held_under}
 use Rattle.tc_open.specs.Resting.{IsTidy}
-use Rattle.tc_replay.proofs.ToldMoments.{told_on}
+use Rattle.tc_open.proofs.ToldMoments.{told_on}
 use Rattle.tc_open.proofs.FirstLogs.{created_leaves, empty_leaves, home_starts, may_start, only_put, out_starts, rest_starts, whole_kept, with_log}
 
 module _ (part : Partition) (cs : List Content) where

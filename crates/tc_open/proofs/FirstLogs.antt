@@ -27,7 +27,7 @@ use Rattle.tc_machine.proofs.FilesMade.{empty_image}
 use Rattle.tc_machine.proofs.FreeNames.{none_there}
 use Rattle.tc_machine.proofs.LogHeads.{new_log}
 use Rattle.tc_machine.proofs.Moments.{put_twice}
-use Rattle.tc_replay.specs.Openings.{opening_at}
+use Rattle.tc_open.specs.BeingOpened.{opening_at}
 use Rattle.tc_open.specs.FirstLog.{IsStarting, MakesLog, held_under}
 use Rattle.tc_open.specs.Resting.{IsStillOrGone, IsTidy}
 use Rattle.tc_open.proofs.KeptStores.{held_home, home_out, kept_holds, none_out}

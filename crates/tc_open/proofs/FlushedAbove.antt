@@ -19,8 +19,8 @@ use Rattle.tc_recover.specs.declared.taken.Taken.{Taken}
 use Rattle.tc_recover.specs.Loads.{is_log}
 use Rattle.tc_recover.specs.Opening.{found_in, Found}
 use Rattle.tc_recover.specs.Removing.{needless_names}
-use Rattle.tc_replay.specs.FlushedLogs.{IsFlushListed, IsLogsFlushed, IsReplayDamage}
-use Rattle.tc_replay.specs.Openings.{AreNeedless}
+use Rattle.tc_open.specs.FlushedLogs.{IsFlushListed, IsLogsFlushed, IsReplayDamage}
+use Rattle.tc_open.specs.BeingOpened.{AreNeedless}
 use Rattle.tc_open.specs.declared.fault.OpenCause.{OpenCause}
 use Rattle.tc_open.specs.declared.fault.OpenCause.TheVariants as cause
 use Rattle.tc_open.specs.Judged.{IsOfLogs}

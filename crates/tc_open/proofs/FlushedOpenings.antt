@@ -28,8 +28,8 @@ use Rattle.tc_jobs.specs.Faults as jobs
 use Rattle.tc_part_model.specs.Leaving.{KeepsStore}
 use Rattle.tc_part_model.specs.PartState.{IsTold}
 use Rattle.tc_plain_model.specs.Writes.{Pairs, Write}
-use Rattle.tc_replay.specs.FlushedLogs.{IsLogsFlushed}
-use Rattle.tc_replay.specs.Openings.{AreIn, IsOpening, LeavesLogged, stored_by}
+use Rattle.tc_open.specs.FlushedLogs.{IsLogsFlushed}
+use Rattle.tc_open.specs.BeingOpened.{AreIn, IsOpening, LeavesLogged, stored_by}
 use Rattle.tc_open.specs.declared.fault.OpenCause.{OpenCause}
 use Rattle.tc_open.specs.declared.fault.OpenCause.TheVariants as cause
 use Rattle.tc_open.specs.Listed.{AreFlushedFrom}

@@ -28,7 +28,7 @@ use Rattle.tc_recover.specs.Tilings.{Tile, end_of}
 use Rattle.tc_recover.proofs.Members.{member_cases, member_first, member_further, no_member}
 use Rattle.tc_recover.proofs.Tiles.{stands_at, tile_pushed}
 use Rattle.tc_machine.specs.Steps.{IsSpare}
-use Rattle.tc_replay.specs.Openings.{AreNeedless, opening_at}
+use Rattle.tc_open.specs.BeingOpened.{AreNeedless, opening_at}
 use Rattle.tc_open.specs.Resting.{AreOwn}
 use Rattle.tc_open.specs.Steps.{AreListed, IsLogUpTo}
 use Rattle.tc_open.proofs.FilesRead.{file_names_are, second_false}

@@ -37,10 +37,10 @@ use Rattle.tc_recover.specs.Removing.{removes_all}
 use Rattle.tc_recover.specs.Tilings.{Tile}
 use Rattle.tc_recover.proofs.Members.{member_cases, member_first, member_further, no_member}
 use Rattle.tc_recover.proofs.Tiles.{ends_behind, stands_at}
-use Rattle.tc_replay.specs.Merges.{IsListMerged, IsMergeListed, head_over}
-use Rattle.tc_replay.specs.Openings.{AreNeedless, IsKeptWriting, IsOpening, LeavesLogged, LeavesWriting}
-use Rattle.tc_replay.proofs.MergedLists.{loaded_length, told_run}
-use Rattle.tc_replay.proofs.ToldMoments.{tells_on}
+use Rattle.tc_open.specs.Merges.{IsListMerged, IsMergeListed, head_over}
+use Rattle.tc_open.specs.BeingOpened.{AreNeedless, IsKeptWriting, IsOpening, LeavesLogged, LeavesWriting}
+use Rattle.tc_open.proofs.MergedLists.{loaded_length, told_run}
+use Rattle.tc_open.proofs.ToldMoments.{tells_on}
 use Rattle.tc_open.specs.declared.fault.OpenCause.TheVariants as cause
 use Rattle.tc_open.specs.Listed.{AreMergedFrom, merged_as, most_listed}
 use Rattle.tc_open.specs.OpenCauses.{of_store}

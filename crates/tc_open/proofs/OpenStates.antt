@@ -27,7 +27,7 @@ use Rattle.tc_part_model.specs.PartState.{IsTold}
 use Rattle.tc_jobs.specs.Lists.{file_names}
 use Rattle.tc_recover.specs.Removing.{RemovesFirst, removes_all}
 use Rattle.tc_recover.proofs.Members.{member_cases, no_member}
-use Rattle.tc_replay.specs.Openings.{AreIn, IsOpening, LeavesLogged, opening_at}
+use Rattle.tc_open.specs.BeingOpened.{AreIn, IsOpening, LeavesLogged, opening_at}
 use Rattle.tc_open.specs.Openings.{LeavesStored}
 use Rattle.tc_open.specs.Resting.{AreOwn, IsTidy}
 use Rattle.tc_open.specs.Steps.{Keeps, Stands}

@@ -28,8 +28,8 @@ use Rattle.tc_part_model.proofs.NewestComponents.{names_are, next_is}
 use Rattle.tc_plain_model.specs.Store.{Store}
 use Rattle.tc_plain_model.specs.Writes.{Pairs, Write}
 use Rattle.tc_recover.proofs.Members.{no_member}
-use Rattle.tc_replay.specs.Openings.{AreIn}
-use Rattle.tc_replay.proofs.CountedLogs.{loaded_are, loaded_tell}
+use Rattle.tc_open.specs.BeingOpened.{AreIn}
+use Rattle.tc_open.proofs.CountedLogs.{loaded_are, loaded_tell}
 use Rattle.tc_open.specs.Answered.{HasOnlyThese}
 use Rattle.tc_open.specs.FirstLog.{EachStarts, IsStarting, MakesLog}
 use Rattle.tc_open.specs.Listed.{AreOpenedFrom}

@@ -32,8 +32,8 @@ use Rattle.tc_recover.specs.Loads.{is_log}
 use Rattle.tc_recover.specs.Opening.{AnswersBy, AreAllTaken, DiskJudged, Found, IsReadCause, IsReadOf}
 use Rattle.tc_recover.specs.Sorting.{Follow, logs_above, open_names}
 use Rattle.tc_recover.specs.Tilings.{end_of}
-use Rattle.tc_replay.specs.Openings.{AreIn, IsOpening}
-use Rattle.tc_replay.proofs.ToldMoments.{tells_since}
+use Rattle.tc_open.specs.BeingOpened.{AreIn, IsOpening}
+use Rattle.tc_open.proofs.ToldMoments.{tells_since}
 use Rattle.tc_open.specs.Judged.{CauseJudged, IsOpenCause}
 use Rattle.tc_open.specs.OpenCauses.{IfDamaged, IfLayout, of_files}
 use Rattle.tc_open.specs.Openings.{LeavesStored}

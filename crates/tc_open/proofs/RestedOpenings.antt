@@ -15,7 +15,7 @@ use Rattle.tc_recover.specs.Loading.{interval_of}
 use Rattle.tc_recover.specs.Opening.{DiskJudged, Found, found_in}
 use Rattle.tc_open.specs.declared.fault.OpenCause.{OpenCause}
 use Rattle.tc_open.specs.declared.fault.OpenCause.TheVariants.{Disk as DiskFault, Damaged, Layout, Spent, Memory}
-use Rattle.tc_replay.specs.Merges.{IsMergeDamage, head_over}
+use Rattle.tc_open.specs.Merges.{IsMergeDamage, head_over}
 use Rattle.tc_open.specs.Judged.{AreOfDisk, CauseJudged, IsOfFound, IsOpenCause, Passes}
 use Rattle.tc_open.specs.Listed.{AreFlushed, AreFlushedFrom, AreMergedFrom, AreOpenedFrom, listed_as, most_listed}
 use Rattle.tc_open.specs.OpenCauses.{IfDamaged, IsOfJob, IsOfNoFile}

@@ -21,7 +21,7 @@ use Rattle.tc_recover.specs.Files.{AreTold as TellBytes, names_in, takes_all}
 use Rattle.tc_recover.specs.Loading.{files_of, interval_of, is_file_of}
 use Rattle.tc_recover.specs.Opening.{AreAllTaken, IsReadOf}
 use Rattle.tc_recover.specs.Removing.{removes_all}
-use Rattle.tc_replay.specs.FlushedLogs.{IsFlushListed}
+use Rattle.tc_open.specs.FlushedLogs.{IsFlushListed}
 
 -- what does not depend on the moment stays, where what told nothing tells nothing
 pub told_still : {X : Type 0} (Q : Type 0) (old new : List X) → (old ≡ [] → new ≡ []) → IfTold old (λ x. Q) → IfTold new (λ x. Q)

@@ -21,7 +21,7 @@ use Rattle.tc_part_model.specs.PartState.{AreTold, PartState, told}
 use Rattle.tc_plain_model.specs.Writes.{Write}
 use Rattle.tc_recover.specs.Files.{TakesSome}
 use Rattle.tc_recover.specs.Lawful.{DiskOpens}
-use Rattle.tc_replay.specs.Openings.{AreIn}
+use Rattle.tc_open.specs.BeingOpened.{AreIn}
 use Rattle.tc_open.specs.declared.fault.OpenCause.{OpenCause}
 use Rattle.tc_open.specs.declared.fault.OpenCause.TheVariants.{Disk as DiskFault}
 use Rattle.tc_open.specs.Judged.{IsOpenCause, IsUntouched}

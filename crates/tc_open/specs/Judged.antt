@@ -18,8 +18,8 @@ use Rattle.tc_recover.specs.declared.taken.Taken.{Taken}
 use Rattle.tc_recover.specs.Files.{AreNamed, TakesSome}
 use Rattle.tc_recover.specs.Opening.{DiskJudged, Found, IsReadCause}
 use Rattle.tc_recover.specs.Refusals.{Refusal, breaks, strays, clashes}
-use Rattle.tc_replay.specs.FlushedLogs.{IsReplayDamage}
-use Rattle.tc_replay.specs.Merges.{IsMergeDamage, head_over}
+use Rattle.tc_open.specs.FlushedLogs.{IsReplayDamage}
+use Rattle.tc_open.specs.Merges.{IsMergeDamage, head_over}
 use Rattle.tc_open.specs.Listed.{AreFlushed, end_by, most_listed}
 use Rattle.tc_open.specs.declared.fault.OpenCause.{OpenCause}
 use Rattle.tc_open.specs.declared.fault.OpenCause.TheVariants.{Damaged, Layout, Spent}

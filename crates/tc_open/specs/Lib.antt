@@ -1,3 +1,10 @@
+pub mod BeingOpened
+pub mod Reads
+pub mod LastWrites
+pub mod Replays
+pub mod LogFlushes
+pub mod FlushedLogs
+pub mod Merges
 pub mod FirstLog
 pub mod OpenCauses
 pub mod Resting

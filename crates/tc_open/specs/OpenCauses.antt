@@ -1,6 +1,8 @@
 -- Why a partition is not opened, by what a call below answered.
 use Rattle.tc_jobs.specs.declared.fault.JobFault.{JobFault}
 use Rattle.tc_jobs.specs.declared.fault.JobFault.TheVariants as job
+use Rattle.tc_part.specs.declared.fault.PartFault.{PartFault}
+use Rattle.tc_part.specs.declared.fault.PartFault.TheVariants as part
 use Rattle.tc_store.specs.declared.damage.Damage.{Damage}
 use Rattle.tc_store.specs.declared.fault.DeviceFault.{DeviceFault}
 use Rattle.tc_store.specs.declared.fault.DeviceFault.TheVariants as device
@@ -29,6 +31,13 @@ abbrev pub of_job : JobFault → OpenCause
 of_job job.Disk = Disk
 of_job (job.Damaged damage) = Damaged damage
 of_job job.Memory = Memory
+
+-- No read of a record answers that a number is spent.
+abbrev pub of_read : PartFault → JobFault
+of_read part.Disk = job.Disk
+of_read (part.Damaged damage) = job.Damaged damage
+of_read part.Spent = job.Memory
+of_read part.Memory = job.Memory
 
 -- of a call that reads no file: it is the disk, or memory, or that no generation is left
 abbrev pub IsOfNoFile : OpenCause → Type 0

@@ -11,7 +11,7 @@ use Rattle.tc_part_model.specs.Leaving.{KeepsStore}
 use Rattle.tc_part_model.specs.Meaning.{IsPart, plain_of}
 use Rattle.tc_part_model.specs.PartState.{AreTold, IsTold, Told}
 use Rattle.tc_part_model.specs.Starting.{started_part}
-use Rattle.tc_replay.specs.Openings.{AreIn, LeavesLogged, LeavesWriting, stored_by}
+use Rattle.tc_open.specs.BeingOpened.{AreIn, LeavesLogged, LeavesWriting, stored_by}
 use Rattle.tc_open.specs.FirstLog.{IsStarting}
 use Rattle.tc_open.specs.Listed.{AreOpenedFrom}
 

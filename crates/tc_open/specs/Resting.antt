@@ -8,7 +8,7 @@ use Rattle.tc_lsm_model.specs.Contents.{Partition, Content}
 use Rattle.tc_jobs.specs.Lists.{file_names}
 use Rattle.tc_machine.specs.Kept.{IsKept}
 use Rattle.tc_machine.specs.Steps.{AreExpected}
-use Rattle.tc_replay.specs.Openings.{opening_at}
+use Rattle.tc_open.specs.BeingOpened.{opening_at}
 
 -- a file that never changes, or none
 abbrev pub IsStillOrGone : Entry → Type 0

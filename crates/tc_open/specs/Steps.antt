@@ -23,7 +23,7 @@ use Rattle.tc_part.specs.Ready.{AreNamed}
 use Rattle.tc_recover.specs.declared.taken.Taken.{Taken}
 use Rattle.tc_recover.specs.Loading.{interval_of}
 use Rattle.tc_recover.specs.Tilings.{Tile}
-use Rattle.tc_replay.specs.Openings.{AreIn, IsOpening}
+use Rattle.tc_open.specs.BeingOpened.{AreIn, IsOpening}
 use Rattle.tc_open.specs.Openings.{LeavesStored}
 
 -- ---- over every store

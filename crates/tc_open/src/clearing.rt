@@ -11,7 +11,7 @@ ghost use Rattle.tc_plain_model.specs.Writes.{Write as PlainWrite};
 ghost use Rattle.tc_recover.specs.Files.{TakesSome};
 ghost use Rattle.tc_recover.specs.Lawful.{DiskOpens};
 ghost use Rattle.tc_recover.specs.Refusals.{asked};
-ghost use Rattle.tc_replay.specs.Openings.{AreIn};
+ghost use Rattle.tc_open.specs.BeingOpened.{AreIn};
 ghost use Rattle.tc_open.specs.Judged.{AreOfDisk, CauseJudged, IsOpenCause, IsUntouched, Passes};
 ghost use Rattle.tc_open.specs.Listed.{AreFlushed, AreFlushedFrom};
 ghost use Rattle.tc_open.specs.OpenCauses.{IfDamaged, IfLayout};

@@ -1,9 +1,10 @@
-//! Why a partition is not opened, and what is given back then.
+//! Why a partition is not opened, by what a call below answered, and what is given back then.
 
 ghost use Rattle.std.specs.Prelude.{◌≡◌};
-ghost use Rattle.tc_open.specs.OpenCauses.{of_files, of_store, of_device, of_job};
+ghost use Rattle.tc_open.specs.OpenCauses.{of_files, of_store, of_device, of_job, of_read as read_fault};
 
 use tc_jobs::JobFault;
+use tc_part::PartFault;
 use tc_recover::FilesCause;
 use tc_store::{Damage, DeviceFault, Kit, Store, StoreFault};
 use thiserror::Error;
@@ -68,6 +69,19 @@ impl From<JobFault> for OpenCause {
             JobFault::Damaged(damage) => OpenCause::Damaged(damage),
             JobFault::Memory => OpenCause::Memory,
         }
+    }
+}
+
+/// The fault of a job in which a record was not read.
+pub(crate) fn of_read(fault: PartFault) -> JobFault
+    requires { fault ≡ PartFault.Spent → ⊥ }
+    ensures { result ≡ read_fault fault }
+{
+    match fault {
+        PartFault::Disk => JobFault::Disk,
+        PartFault::Damaged(damage) => JobFault::Damaged(damage),
+        PartFault::Spent => unreachable!(),
+        PartFault::Memory => JobFault::Memory,
     }
 }
 

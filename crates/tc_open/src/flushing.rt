@@ -19,8 +19,8 @@ ghost use Rattle.tc_recover.specs.Refusals.{asked};
 ghost use Rattle.tc_jobs.specs.Lists.{IsListOf};
 ghost use Rattle.tc_part_model.specs.Leaving.{KeepsStore};
 ghost use Rattle.tc_part_model.specs.PartState.{AreTold, told_component};
-ghost use Rattle.tc_replay.specs.FlushedLogs.{IsFlushListed, IsLogsFlushed, IsReplayDamage};
-ghost use Rattle.tc_replay.specs.Openings.{AreIn, AreNeedless, IsOpening, LeavesLogged, stored_by};
+ghost use Rattle.tc_open.specs.FlushedLogs.{IsFlushListed, IsLogsFlushed, IsReplayDamage};
+ghost use Rattle.tc_open.specs.BeingOpened.{AreIn, AreNeedless, IsOpening, LeavesLogged, stored_by};
 ghost use Rattle.tc_open.specs.Judged.{IsOfLogs};
 ghost use Rattle.tc_open.specs.Listed.{AreFlushed, AreFlushedFrom};
 ghost use Rattle.tc_open.specs.OpenCauses.{IfDamaged, IsOfJob};
@@ -28,6 +28,7 @@ ghost use Rattle.tc_open.specs.Resting.{AreOwn};
 ghost use Rattle.tc_open.specs.Steps.{AreAbove, AreListed, Keeps, Rests, Stands};
 
 use crate::fault::{OpenCause, OpenFault};
+use crate::flushing_logs::{LogsFlushed, flush_logs};
 use crate::removing::remove_files;
 use crate::steps::{Rested, Tidied};
 use std::alloc::Global;
@@ -35,7 +36,6 @@ use tc_component::Head;
 use tc_list::ComponentList;
 use tc_log::Writes;
 use tc_recover::Partition;
-use tc_replay::{LogsFlushed, flush_logs};
 use tc_store::{Kit, Store};
 
 /// Flushes the logs above the components, where there are any, as one component behind the others, also where no write is in

@@ -12,20 +12,21 @@ ghost use Rattle.tc_part_model.specs.PartState.{AreTold, told_component};
 ghost use Rattle.tc_recover.specs.Loading.{interval_of};
 ghost use Rattle.tc_recover.specs.Refusals.{asked};
 ghost use Rattle.tc_recover.specs.Removing.{removes_all};
-ghost use Rattle.tc_replay.specs.Merges.{head_over, IsMergeDamage};
-ghost use Rattle.tc_replay.specs.Openings.{AreIn};
+ghost use Rattle.tc_open.specs.Merges.{head_over, IsMergeDamage};
+ghost use Rattle.tc_open.specs.BeingOpened.{AreIn};
 ghost use Rattle.tc_open.specs.Listed.{AreMergedFrom, merged_as, most_listed};
 ghost use Rattle.tc_open.specs.OpenCauses.{IfDamaged, IsOfCall, IsOfJob};
 ghost use Rattle.tc_open.specs.Resting.{AreOwn};
 ghost use Rattle.tc_open.specs.Steps.{AreListed, Keeps, Rests, Stands};
 
 use crate::fault::{OpenCause, OpenFault};
+use crate::merging_all::{ListMerged, merge_listed};
+use crate::removal_laws::needless_files_go;
 use crate::steps::Rested;
 use std::alloc::Global;
 use std::sync::Arc;
 use tc_component::Component;
 use tc_recover::Partition;
-use tc_replay::{ListMerged, merge_listed, needless_files_go};
 use tc_store::{Kit, Store};
 
 /// How many components a partition may begin with.

@@ -15,7 +15,7 @@ ghost use Rattle.tc_recover.specs.Loads.{is_log as of_log};
 ghost use Rattle.tc_recover.specs.Opening.{DiskJudged, found_in};
 ghost use Rattle.tc_recover.specs.Refusals.{asked};
 ghost use Rattle.tc_recover.specs.Removing.{needless_names};
-ghost use Rattle.tc_replay.specs.Openings.{AreIn, AreNeedless};
+ghost use Rattle.tc_open.specs.BeingOpened.{AreIn, AreNeedless};
 ghost use Rattle.tc_open.specs.Judged.{AreOfDisk, CauseJudged, IsOpenCause, IsUntouched};
 ghost use Rattle.tc_open.specs.OpenCauses.{IfDamaged, IfLayout};
 ghost use Rattle.tc_open.specs.Resting.{AreOwn};

@@ -10,16 +10,16 @@ ghost use Rattle.tc_part_model.specs.PartState.{IsTold};
 ghost use Rattle.tc_plain_model.specs.Writes.{Write};
 ghost use Rattle.tc_recover.specs.Loads.{is_log as of_log};
 ghost use Rattle.tc_recover.specs.Removing.{needless_names};
-ghost use Rattle.tc_replay.specs.Openings.{AreIn, AreNeedless, IsOpening};
+ghost use Rattle.tc_open.specs.BeingOpened.{AreIn, AreNeedless, IsOpening};
 ghost use Rattle.tc_open.specs.OpenCauses.{IsOfCall};
 ghost use Rattle.tc_open.specs.Resting.{AreOwn};
 ghost use Rattle.tc_open.specs.Steps.{Keeps};
 
 use crate::fault::{OpenCause, OpenFault};
+use crate::removal_laws::needless_files_go;
 use crate::steps::Removed;
 use std::alloc::Global;
 use tc_recover::{Taken, remove_needless};
-use tc_replay::needless_files_go;
 use tc_store::{Kit, Store};
 
 /// Removes all of these files but the open logs above a generation. `Disk` comes only where a removal failed.

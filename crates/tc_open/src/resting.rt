@@ -12,7 +12,7 @@ ghost use Rattle.tc_recover.specs.Files.{TakesSome};
 ghost use Rattle.tc_recover.specs.Lawful.{DiskOpens};
 ghost use Rattle.tc_recover.specs.Loading.{interval_of};
 ghost use Rattle.tc_recover.specs.Refusals.{asked};
-ghost use Rattle.tc_replay.specs.Openings.{AreIn};
+ghost use Rattle.tc_open.specs.BeingOpened.{AreIn};
 ghost use Rattle.tc_open.specs.Judged.{CauseJudged, IsOpenCause, IsUntouched, Passes};
 ghost use Rattle.tc_open.specs.Listed.{AreOpenedFrom, listed_as, most_listed};
 ghost use Rattle.tc_open.specs.OpenCauses.{IfDamaged, IfLayout};

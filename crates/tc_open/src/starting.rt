@@ -27,7 +27,7 @@ ghost use Rattle.tc_open.specs.Answered.{begun_part};
 ghost use Rattle.tc_open.specs.FirstLog.{EachStarts, FailsCreating, MakesLog};
 ghost use Rattle.tc_open.specs.OpenCauses.{IsOfCall, IsOfNoFile};
 ghost use Rattle.tc_recover.specs.Refusals.{asked};
-ghost use Rattle.tc_replay.specs.Openings.{AreIn};
+ghost use Rattle.tc_open.specs.BeingOpened.{AreIn};
 ghost use Rattle.tc_open.specs.Resting.{AreOwn, IsTidy};
 
 use crate::fault::{OpenCause, OpenFault};

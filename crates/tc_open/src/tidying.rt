@@ -12,7 +12,7 @@ ghost use Rattle.tc_recover.specs.Files.{TakesSome};
 ghost use Rattle.tc_recover.specs.Lawful.{DiskOpens};
 ghost use Rattle.tc_recover.specs.Opening.{DiskJudged, found_in};
 ghost use Rattle.tc_recover.specs.Refusals.{asked};
-ghost use Rattle.tc_replay.specs.Openings.{AreIn};
+ghost use Rattle.tc_open.specs.BeingOpened.{AreIn};
 ghost use Rattle.tc_open.specs.Judged.{AreOfDisk, CauseJudged, IsOpenCause, IsUntouched};
 ghost use Rattle.tc_open.specs.OpenCauses.{IfDamaged, IfLayout};
 ghost use Rattle.tc_open.specs.Resting.{AreOwn};

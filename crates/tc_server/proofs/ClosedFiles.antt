@@ -13,7 +13,7 @@ use Rattle.tc_part_model.specs.Leaving.{KeepsStore}
 use Rattle.tc_part_model.specs.PartView.{store_of}
 use Rattle.tc_plain_model.specs.Store.{Store, empty}
 use Rattle.tc_plain_model.specs.Writes.{Pairs}
-use Rattle.tc_replay.specs.Openings.{AreIn}
+use Rattle.tc_open.specs.BeingOpened.{AreIn}
 use Rattle.tc_run_model.specs.World.{Part, World, store_at}
 use Rattle.tc_store.specs.Disk.{Disk}
 use Rattle.tc_store.specs.KitFaults.{KitFaults}

@@ -19,7 +19,7 @@ use Rattle.tc_open.specs.Steps as step
 use Rattle.tc_part_model.specs.PartState.{PartState}
 use Rattle.tc_plain_model.specs.Writes.{Write as PlainWrite}
 use Rattle.tc_recover.specs.Lawful.{DiskOpens}
-use Rattle.tc_replay.specs.Openings.{AreIn}
+use Rattle.tc_open.specs.BeingOpened.{AreIn}
 use Rattle.tc_run_model.specs.Course.{input_failed, output_failed, unopened}
 use Rattle.tc_store.specs.Counted.{Counts}
 use Rattle.tc_store.specs.Disk.{Disk}

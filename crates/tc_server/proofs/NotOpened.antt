@@ -16,7 +16,7 @@ use Rattle.tc_part_model.specs.PartView.{store_of}
 use Rattle.tc_part_model.specs.Starting.{started_part}
 use Rattle.tc_plain_model.specs.Room.{Limits}
 use Rattle.tc_plain_model.specs.Store.{Store, empty}
-use Rattle.tc_replay.specs.Openings.{AreIn}
+use Rattle.tc_open.specs.BeingOpened.{AreIn}
 use Rattle.tc_run_model.specs.Course.{Shown, behind, unopened, Ran}
 use Rattle.tc_run_model.specs.World.{Part, World, first_world, part_of, store_at}
 use Rattle.tc_run_model.proofs.ReplyLaws.{MayReply-none}

@@ -12,7 +12,7 @@ use Rattle.tc_part_model.specs.Meaning.{IsPart}
 use Rattle.tc_part_model.specs.PartView.{PartView, store_of}
 use Rattle.tc_plain_model.specs.Writes.{Pairs, Write as PlainWrite}
 use Rattle.tc_recover.specs.Lawful.{DiskOpens}
-use Rattle.tc_replay.specs.Openings.{AreIn}
+use Rattle.tc_open.specs.BeingOpened.{AreIn}
 use Rattle.tc_store.specs.declared.file_name.FileName.{FileName}
 use Rattle.tc_store.specs.Disk.{Disk}
 use Rattle.tc_store.specs.KitFaults.{KitFaults}

@@ -14,7 +14,7 @@ use Rattle.tc_plain_model.specs.Room.{Limits}
 use Rattle.tc_plain_model.specs.Store.{Store}
 use Rattle.tc_plain_model.specs.Writes.{Pairs, Write as PlainWrite}
 use Rattle.tc_recover.specs.Lawful.{DiskOpens}
-use Rattle.tc_replay.specs.Openings.{AreIn}
+use Rattle.tc_open.specs.BeingOpened.{AreIn}
 use Rattle.tc_run_model.specs.World.{World, first_world, store_at}
 use Rattle.tc_run_model.specs.Course.{Ending, finished, input_failed, input_spent, output_failed, stopped, unopened, behind, Ran, Shown, worlds_left}
 use Rattle.tc_server.specs.Ending.{limits_of, RunsOver}

@@ -7,7 +7,7 @@ ghost use Rattle.tc_keeper.specs.Faults.{faults_in, status_of};
 ghost use Rattle.tc_server.specs.KitCauses.{GivesKitsBack, HasCauseOver};
 ghost use Rattle.tc_server.specs.OverFiles.{partitions_asked, BeginsFor, ServedOver};
 ghost use Rattle.tc_keeper.specs.Sight.{Sight};
-ghost use Rattle.tc_replay.specs.Openings.{AreIn};
+ghost use Rattle.tc_open.specs.BeingOpened.{AreIn};
 ghost use Rattle.tc_store.specs.Moments.{IfTold};
 ghost use Rattle.tc_server.specs.Program.{fault_of_words, invocation_given};
 

@@ -6,7 +6,7 @@ ghost use Rattle.tc_keeper.specs.Places.{AtEach, EachFrom, SomeFrom};
 ghost use Rattle.tc_keeper.specs.Standing.{partition_at};
 ghost use Rattle.tc_keeper.specs.WithJobs.{settings};
 ghost use Rattle.tc_log.specs.Layout.{empty_size};
-ghost use Rattle.tc_replay.specs.Openings.{AreIn};
+ghost use Rattle.tc_open.specs.BeingOpened.{AreIn};
 ghost use Rattle.tc_run_model.specs.Course.{each_line};
 ghost use Rattle.tc_store.specs.Disk.{Disk};
 ghost use Rattle.tc_store.specs.Moments.{IfTold};

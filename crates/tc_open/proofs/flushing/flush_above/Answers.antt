@@ -7,8 +7,8 @@ use Rattle.tc_log.specs.declared.write.Write.{Write}
 use Rattle.tc_machine.specs.Pictures.{recovered}
 use Rattle.tc_recover.specs.Opening.{found_in}
 use Rattle.tc_recover.specs.Refusals.{asked}
-use Rattle.tc_replay.specs.FlushedLogs.{IsReplayDamage}
-use Rattle.tc_replay.proofs.ToldMoments.{tells_on}
+use Rattle.tc_open.specs.FlushedLogs.{IsReplayDamage}
+use Rattle.tc_open.proofs.ToldMoments.{tells_on}
 use Rattle.tc_open.specs.Listed.{AreFlushed}
 use Rattle.tc_open.specs.OpenCauses.{IfDamaged}
 use Rattle.tc_open.specs.Openings.{LeavesStored}

@@ -1,5 +1,5 @@
 use Rattle.tc_component.specs.Rows.{part_of}
-use Rattle.tc_replay.specs.FlushedLogs.{IsReplayDamage}
+use Rattle.tc_open.specs.FlushedLogs.{IsReplayDamage}
 use Rattle.std.proofs.Common.{sym, subst}
 use Rattle.tc_store.proofs.MomentLemmas.{told_map}
 use Rattle.tc_open.specs.OpenCauses.{IfDamaged}

@@ -10,8 +10,8 @@ use Rattle.tc_jobs.specs.Lists.{file_names}
 use Rattle.tc_recover.specs.Loading.{interval_of}
 use Rattle.tc_recover.specs.Refusals.{asked}
 use Rattle.tc_recover.specs.Removing.{removes_all}
-use Rattle.tc_replay.specs.Merges.{IsListMerged, IsMergeDamage, IsMergeListed, head_over}
-use Rattle.tc_replay.specs.Openings.{IsKeptWriting}
+use Rattle.tc_open.specs.Merges.{IsListMerged, IsMergeDamage, IsMergeListed, head_over}
+use Rattle.tc_open.specs.BeingOpened.{IsKeptWriting}
 use Rattle.tc_open.specs.Listed.{most_listed}
 use Rattle.tc_open.specs.OpenCauses.{IfDamaged, of_job}
 use Rattle.tc_store.proofs.MomentLemmas.{told_map}

@@ -2,7 +2,7 @@ use Rattle.std.proofs.Common.{List, inl, subst, sym}
 use Rattle.tc_store.specs.Disk.{IsAtRest}
 use Rattle.tc_store.specs.Moments.{IfTold}
 use Rattle.tc_store.proofs.MomentLemmas.{told_map}
-use Rattle.tc_replay.specs.Openings.{AreIn}
+use Rattle.tc_open.specs.BeingOpened.{AreIn}
 use Rattle.tc_plain_model.specs.Writes.{Write}
 use Rattle.tc_lsm_model.specs.Contents.{Content}
 use Rattle.tc_recover.specs.declared.reading.FilesRead.{FilesRead}

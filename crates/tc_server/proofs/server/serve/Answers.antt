@@ -1,7 +1,7 @@
 use Rattle.std.proofs.Common.{◌∙◌, ap, arith, refl}
 use Rattle.std.specs.Prelude.{Err}
 use Rattle.std.proofs.lemmas.List.Elements.{All-nil}
-use Rattle.tc_replay.specs.Openings.{AreIn}
+use Rattle.tc_open.specs.BeingOpened.{AreIn}
 use Rattle.tc_store.specs.Moments.{IfTold}
 use Rattle.tc_store.specs.declared.kit.Kit.{Kit}
 use Rattle.tc_words.proofs.OptionRanges.{asked_in_range}

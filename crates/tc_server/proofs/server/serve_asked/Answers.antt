@@ -7,7 +7,7 @@ use Rattle.tc_bytes.specs.Counts.{Rose}
 use Rattle.tc_keeper.specs.Places.{AtEach}
 use Rattle.tc_keeper.specs.Standing.{partition_at}
 use Rattle.tc_part_model.proofs.HeldKeys.{Ascends-stored}
-use Rattle.tc_replay.specs.Openings.{AreIn}
+use Rattle.tc_open.specs.BeingOpened.{AreIn}
 use Rattle.tc_store.specs.Moments.{IfTold}
 use Rattle.tc_store.specs.declared.damage.Damage.{Damage}
 use Rattle.tc_store.specs.declared.kit.Kit.{Kit}

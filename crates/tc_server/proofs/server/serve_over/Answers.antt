@@ -6,7 +6,7 @@ use Rattle.tc_keeper.specs.Places.{AtEach, EachFrom}
 use Rattle.tc_keeper.proofs.PlaceLaws.{at_each-length, at_each-reads, at_each-so}
 use Rattle.tc_keeper.specs.Standing.{partition_at}
 use Rattle.tc_keeper.specs.WithJobs.{settings, WithJobs}
-use Rattle.tc_replay.specs.Openings.{AreIn}
+use Rattle.tc_open.specs.BeingOpened.{AreIn}
 use Rattle.tc_store.specs.Moments.{IfTold}
 use Rattle.tc_store.specs.declared.damage.Damage.{Damage}
 use Rattle.tc_store.specs.declared.kit.Kit.{Kit}

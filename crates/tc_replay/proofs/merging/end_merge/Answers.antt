@@ -1,6 +1,0 @@
-use Rattle.std.proofs.Common.{refl}
-use Rattle.std.proofs.lemmas.Result.{on_ok_weaker}
-use Rattle.tc_replay.proofs.merging.end_merge.Goals as goal
-
-pub returns-clause-partition : goal.returns-clause-partition
-returns-clause-partition g c = on_ok_weaker c.list_merge-outcome.result (λ goes. goes c.args.head.number c.args.head.count refl refl) c.list_merge-outcome.ensures.partition
