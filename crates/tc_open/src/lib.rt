@@ -6,7 +6,6 @@
 mod below;
 mod clearing;
 mod fault;
-mod flush_laws;
 mod flushing;
 mod flushing_logs;
 mod log_inputs;
