@@ -1,13 +1,14 @@
 //! What the flush of the logs begins with, and the damage where the table cannot be over the components.
 
 ghost use Rattle.std.specs.Arc.{arc_value};
-ghost use Rattle.std.specs.Prelude.{◌≡◌, ◌+◌, ◌-◌, ◌<◌, ◌≤◌, ◌^◌, ◌++◌, [], map, IfOk, IsErrOf, OnOk};
+ghost use Rattle.std.specs.Prelude.{◌≡◌, ◌+◌, ◌-◌, ◌<◌, ◌≤◌, ◌^◌, ◌++◌, [], List, IfOk, IsErrOf};
 ghost use Rattle.tc_flush.specs.Counting.{IsCounted as CountsOf};
 ghost use Rattle.tc_flush.specs.Flushable.{CanFlush};
 ghost use Rattle.tc_lsm_model.specs.Tables.{Table};
 ghost use Rattle.tc_memory.specs.DocumentTables.{IsTableOf};
 ghost use Rattle.tc_merge.specs.Merging.{newest_names, newest_schema};
 ghost use Rattle.tc_schema_model.specs.Counted.{nothing};
+ghost use Rattle.tc_store.specs.declared.file_name.FileName.{FileName as Name};
 ghost use Rattle.tc_jobs.specs.Faults.{AreFiles, AreFilesOr, IfDamaged};
 ghost use Rattle.tc_jobs.specs.Lists.{file_names};
 ghost use Rattle.tc_open.specs.FlushedLogs.{log_names};
@@ -15,7 +16,7 @@ ghost use Rattle.tc_open.specs.FlushedLogs.{log_names};
 use std::alloc::Global;
 use std::sync::Arc;
 use tc_bytes::Memory;
-use tc_component::{Component, Head};
+use tc_component::Head;
 use tc_jobs::{FlushInputs, JobFault, flush_inputs};
 use tc_list::ComponentList;
 use tc_memory::Sealed;
@@ -41,52 +42,37 @@ pub(crate) fn inputs_over<F: Frozen>(
 {
     match flush_inputs(alloc, sealed, list) {
         Ok(inputs) => Ok(inputs),
-        Err(JobFault::Damaged(_)) => Err(disordered(alloc, list, head)),
+        Err(JobFault::Damaged(damage)) => Err(disordered(damage, head)),
         Err(fault) => Err(fault),
     }
 }
 
-/// The fault of listed components over which the table of these logs cannot be.
-fn disordered<F: Frozen>(alloc: Global, list: &ComponentList<F>, head: Head) -> JobFault
+/// The fault of components over which the table of the logs of these generations cannot be: their files, and then the logs.
+fn disordered(damage: Damage, head: Head) -> JobFault
     requires order { head.from ≤ head.to }
     requires last { head.to < 2 ^ 63 }
-    ensures { AreFilesOr (file_names list.now ++ log_names head.from (head.to + 1 - head.from)) result }
+    ensures { (files : List Name) → AreFiles files damage → AreFilesOr (files ++ log_names head.from (head.to + 1 - head.from)) result }
 {
-    match names_with_logs(alloc, list, head) {
-        Ok(names) => JobFault::Damaged(Damage::Files {
-            names: FileNames::of(names),
-        }),
-        Err(_) => JobFault::Memory,
+    match damage {
+        Damage::Files { names } => match with_logs(names.into_inner(), head) {
+            Ok(names) => JobFault::Damaged(Damage::Files {
+                names: FileNames::of(names),
+            }),
+            Err(_) => JobFault::Memory,
+        },
+        bytes => JobFault::Damaged(bytes),
     }
 }
 
-/// The names of the files of listed components, and of the logs of these generations.
-fn names_with_logs<F: Frozen>(
-    alloc: Global,
-    list: &ComponentList<F>,
-    head: Head,
-) -> Result<Vec<FileName>, Memory>
+/// These names, and after them those of the logs of these generations.
+fn with_logs(files: Vec<FileName>, head: Head) -> Result<Vec<FileName>, Memory>
     requires order { head.from ≤ head.to }
     requires last { head.to < 2 ^ 63 }
-    ensures { IfOk result (λ names. names.items ≡ file_names list.now ++ log_names head.from (head.to + 1 - head.from)) }
+    ensures { IfOk result (λ names. names.items ≡ files.items ++ log_names head.from (head.to + 1 - head.from)) }
 {
-    let mut names = names_of_files(alloc, list.as_slice())?;
+    let mut names = files;
     for generation in head.from..head.to + 1 {
         names.push(FileName::Log { generation })?;
-    }
-    Ok(names)
-}
-
-/// The names of the files of these components.
-fn names_of_files<F: Frozen>(
-    alloc: Global,
-    components: &[Arc<Component<F>>],
-) -> Result<Vec<FileName>, Memory>
-    ensures { IfOk result (λ names. names.items ≡ file_names (map arc_value components.now)) }
-{
-    let mut names = Vec::new(alloc);
-    for component in components {
-        names.push(component.file_name())?;
     }
     Ok(names)
 }

@@ -3,10 +3,10 @@ use Rattle.tc_store.specs.declared.file_name.FileName.{FileName}
 use Rattle.tc_store.specs.declared.file_name.FileName.TheVariants.{Log}
 use Rattle.tc_open.specs.FlushedLogs.{log_names}
 use Rattle.tc_open.proofs.LogNames.{next_log}
-use Rattle.tc_open.proofs.log_inputs.names_with_logs.Goals as goal
+use Rattle.tc_open.proofs.log_inputs.with_logs.Goals as goal
 
 pub loop-generation-preserved : goal.loop-generation-preserved
-loop-generation-preserved g c =
+loop-generation-preserved c =
     let at = c.loop-generation in
     let end = c.args.head.to + 1 in
     let before : at.generation < end = omega (arith, c.loop-generation-test.true) in
