@@ -10,39 +10,38 @@ use Rattle.tc_shown.specs.declared.scan.Scan.{Scan as Begun}
 use Rattle.tc_store.specs.Counted.{Counts}
 use Rattle.tc_store.specs.Disk.{Disk}
 use Rattle.tc_store.specs.DiskFile.{DiskFile}
-use Rattle.tc_keeper.specs.Calls.{faults_at, faults_of, AllMayAnswer, MayAsk}
+use Rattle.tc_keeper.specs.Calls.{faults_at, faults_of, MayAsk}
 use Rattle.tc_keeper.specs.Faults.{DiskFaults, HasRunCauses}
 use Rattle.tc_keeper.specs.Keeping.{counted_out, faults_kept, watch_out, AreLensesOut, AreReadersOut, AreUnwritten, IsManned, KeeperState, MayServe}
 use Rattle.tc_keeper.specs.Showing.{IsShownFirst, ShowsOwnOf}
 use Rattle.tc_keeper.specs.declared.fault.RunFault.{RunFault}
 use Rattle.tc_keeper.specs.declared.fault.RunFault.TheVariants.{Memory}
-use Rattle.tc_keeper.specs.declared.partitions.Partitions.{Partitions}
 use Rattle.tc_keeper.proofs.Causes.{nothing_counted}
 
-pub begun_works : {S P W D F : Type 0} (disks : S → List Disk) (moments : D → List DiskFile) (content : F → Option (List ℕ)) (k : KeeperState S D F W) (p : Partitions S P W D F) → k.engines ≡ p.engines → MayAsk disks moments content p → MayServe disks moments content k
-unfolding MayAsk MayServe
-begun_works disks moments content k p same works = subst (AllMayAnswer disks moments content) (sym same) works
+pub begun_works : {S W D F : Type 0} (disks : S → List Disk) (moments : D → List DiskFile) (content : F → Option (List ℕ)) (k : KeeperState S D F W) (es : List (WithJobs S D F W)) → k.engines ≡ es → MayAsk disks moments content es → MayServe disks moments content k
+unfolding MayServe
+begun_works disks moments content k es same works = subst (MayAsk disks moments content) (sym same) works
 
-pub begun_counts : {S P W D F : Type 0} (counts : W → Counts) (k : KeeperState S D F W) (p : Partitions S P W D F) → k.engines ≡ p.engines → k.scan ≡ None → faults_kept counts k ≡ faults_of counts p
-unfolding faults_kept faults_of
-begun_counts {S} {P} {W} {D} {F} counts k p same none =
+pub begun_counts : {S W D F : Type 0} (counts : W → Counts) (k : KeeperState S D F W) (es : List (WithJobs S D F W)) → k.engines ≡ es → k.scan ≡ None → faults_kept counts k ≡ faults_of counts es
+unfolding faults_kept
+begun_counts {S} {W} {D} {F} counts k es same none =
     ap (λ (o : Option (Begun F W)). λ q. counted_out counts (watch_out o q) (option_map (faults_at counts) (slice_get k.engines q))) none
     ∙ ap (λ (es : List (WithJobs S D F W)). λ q. option_map (faults_at counts) (slice_get es q)) same
 
-pub begun_causes : {S P W D F : Type 0} (counts : W → Counts) (k : KeeperState S D F W) (p : Partitions S P W D F) (reads reads' before now : ℕ) (new : DiskFaults)
-    (why : RunFault → Type 0) (fault : Option RunFault) → k.engines ≡ p.engines → k.scan ≡ None
+pub begun_causes : {S W D F : Type 0} (counts : W → Counts) (k : KeeperState S D F W) (es : List (WithJobs S D F W)) (reads reads' before now : ℕ) (new : DiskFaults)
+    (why : RunFault → Type 0) (fault : Option RunFault) → k.engines ≡ es → k.scan ≡ None
     → HasRunCauses reads reads' before now (faults_kept counts k) new why fault
-    → HasRunCauses reads reads' before now (faults_of counts p) new why fault
-begun_causes counts k p reads reads' before now new why fault same none causes = subst (λ old. HasRunCauses reads reads' before now old new why fault) (begun_counts counts k p same none) causes
+    → HasRunCauses reads reads' before now (faults_of counts es) new why fault
+begun_causes counts k es reads reads' before now new why fault same none causes = subst (λ old. HasRunCauses reads reads' before now old new why fault) (begun_counts counts k es same none) causes
 
 -- memory was wanting, and nothing was asked
-pub unrun_causes : {S P W D F : Type 0} (counts : W → Counts) (p : Partitions S P W D F) (reads before : ℕ) (why : RunFault → Type 0) → HasRunCauses reads reads before before (faults_of counts p) (faults_of counts p) why (Some Memory)
-unrun_causes counts p reads before why = record {
+pub unrun_causes : {S W D F : Type 0} (counts : W → Counts) (es : List (WithJobs S D F W)) (reads before : ℕ) (why : RunFault → Type 0) → HasRunCauses reads reads before before (faults_of counts es) (faults_of counts es) why (Some Memory)
+unrun_causes counts es reads before why = record {
   heard = omega arith;
   read = λ is. absurd (cc);
   kept = omega arith;
   failed = λ is. absurd is;
-  stayed = (nothing_counted (faults_of counts p) why).stayed;
+  stayed = (nothing_counted (faults_of counts es) why).stayed;
   disk = tt;
   damaged = tt;
   kind = tt;

@@ -8,7 +8,7 @@ use Rattle.tc_part_model.specs.PartState.{told}
 use Rattle.tc_shown.specs.declared.scan.Pass.{Pass}
 use Rattle.tc_store.specs.Disk.{Disk}
 use Rattle.tc_store.specs.DiskFile.{DiskFile}
-use Rattle.tc_keeper.specs.Calls.{AllMayAnswer, IsSettled, IsSpentAt, MayBeAsked}
+use Rattle.tc_keeper.specs.Calls.{IsSettled, IsSpentAt, MayAsk, MayBeAsked}
 use Rattle.tc_keeper.proofs.EachLaws.{carried_all, some-beside}
 use Rattle.tc_keeper.proofs.Turns.{is_at-get}
 
@@ -41,7 +41,7 @@ module _ {S D F W : Type 0} where
     spent_so : (q : ℕ) (reader : Option W) (old : WithJobs S D F W) → Spent q old → Spent q (with_reader reader old)
     spent_so q reader old is = record { failed = is.failed; last = is.last; log = is.log }
 
-    pub works_reread : (es es' : List (WithJobs S D F W)) → AtEach IsReread 0 es es' → AllMayAnswer disks moments content es → AllMayAnswer disks moments content es'
+    pub works_reread : (es es' : List (WithJobs S D F W)) → AtEach IsReread 0 es es' → MayAsk disks moments content es → MayAsk disks moments content es'
     works_reread es es' read may =
         let many = at_each-length IsReread 0 es es' read in (
           subst (λ n. 0 < n) many may.0,

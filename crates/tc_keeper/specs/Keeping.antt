@@ -1,16 +1,16 @@
 -- What keeps the documents of a run: the engines, what is shown of each partition to scans beside them, and the scan that is out.
 -- What its calls ask for, and how they leave it.
-use Rattle.std.specs.Prelude.{◌≡◌, ◌⊎◌, ◌<◌, ◌≤◌, ◌%◌, ℕ, true, false, List, [], All, length, map, None, Option, Some, is_some, option_map, slice_get}
+use Rattle.std.specs.Prelude.{◌≡◌, ◌⊎◌, ◌<◌, ◌≤◌, ◌%◌, ℕ, true, false, List, [], All, length, None, Option, Some, is_some, option_map, slice_get}
 use mathlib.Core.List.{IsPrefix}
 use Rattle.tc_command.specs.Commands.{ask_of}
-use Rattle.tc_keeper.specs.Places.{AtEach, EachFrom, IsAt, SomeFrom}
+use Rattle.tc_keeper.specs.Places.{AtEach, EachFrom, IsAt}
 use Rattle.tc_keeper.specs.Showing.{ShowsOwnOf}
 use Rattle.tc_keeper.specs.Standing.{partition_at, IsSeen, KeepWorlds}
-use Rattle.tc_keeper.specs.WithJobs.{settings, Settings, WithJobs}
+use Rattle.tc_keeper.specs.WithJobs.{Settings, WithJobs}
 use Rattle.tc_lsm_model.specs.Contents.{Partition}
 use Rattle.tc_part.specs.Harms.{IsBytesHarm}
 use Rattle.tc_part.specs.OwnComponents.{AreOwnComponents}
-use Rattle.tc_part_model.specs.PartState.{told, PartState}
+use Rattle.tc_part_model.specs.PartState.{PartState}
 use Rattle.tc_plain_model.specs.Writes.{after_writes}
 use Rattle.tc_query.specs.Faults.{IsHarmIn}
 use Rattle.tc_run_model.specs.World.{Part, Scan, World}
@@ -26,13 +26,12 @@ use Rattle.tc_view.specs.Places.{kept_by}
 use Rattle.tc_view.specs.declared.lens.Lens.{Lens}
 use Rattle.tc_work.specs.Damage.{IsPartDamage}
 use Rattle.tc_work.specs.Moving.{Eyes}
-use Rattle.tc_keeper.specs.Calls.{faults_at, AllMayAnswer, IsMet, IsSettled, IsSpent, IsSpentAt}
+use Rattle.tc_keeper.specs.Calls.{faults_of, settings_of, IsMet, IsSpent, MayAsk, Rests}
 use Rattle.tc_keeper.specs.Faults.{DiskFaults, IsSaid}
 use Rattle.tc_keeper.specs.Partitions.{StandAt}
 use Rattle.tc_keeper.specs.OwnKeys.{AreOwn}
 use Rattle.tc_keeper.specs.Sight.{IfKnown, Sight}
 use Rattle.tc_keeper.specs.declared.fault.RunFault.{RunFault}
-use Rattle.tc_keeper.specs.declared.partitions.Partitions.{Partitions}
 
 -- the engines in ascending number of the partition, what is shown of each, and the scan that is out, as it began
 pub record KeeperState (S D F W : Type 0) : Type 0 where
@@ -65,19 +64,19 @@ AreUnwritten es = All (λ e. (e.engine.part.sealed ≡ None) × (e.engine.part.a
 
 -- there are 1 to 16 engines, and each may be asked
 unfoldable pub MayServe : {S W D F : Type 0} → (S → List Disk) → (D → List DiskFile) → (F → Option (List ℕ)) → KeeperState S D F W → Type 0
-MayServe disks moments content k = AllMayAnswer disks moments content k.engines
+MayServe disks moments content k = MayAsk disks moments content k.engines
 
 -- each is as `settle` leaves it
 unfoldable pub AllRest : {S W D F : Type 0} → (D → ℕ) → KeeperState S D F W → Type 0
-AllRest size k = All (IsSettled size) k.engines
+AllRest size k = Rests size k.engines
 
 -- of each what no call changes
 abbrev pub settings_kept : {S W D F : Type 0} → KeeperState S D F W → List Settings
-settings_kept k = map settings k.engines
+settings_kept k = settings_of k.engines
 
 -- one of the engines has no generation left
 unfoldable pub HasSpent : {S W D F : Type 0} → (S → List Disk) → (D → List DiskFile) → (F → Option (List ℕ)) → KeeperState S D F W → Type 0
-HasSpent disks moments content k = SomeFrom (λ q e. IsSpentAt (told disks moments content e.engine.part) e.engine.part) 0 k.engines
+HasSpent disks moments content k = IsSpent disks moments content k.engines
 
 -- ---- what is damaged
 
@@ -103,15 +102,15 @@ WasShownAt {W = W} content engines q damage = IsAt q engines (λ e. WasShown W c
 
 -- this is damage of the engine of this number as it is left, or was met by a scan of what is shown of it
 unfoldable pub HasMet : {S W D F : Type 0} → (D → List DiskFile) → (F → Option (List ℕ)) → KeeperState S D F W → ℕ → Damage → Type 0
-HasMet moments content k q damage = IsAt q k.engines (λ e. IsPartDamage content moments e.engine.part damage) ⊎ IsShownAt content k.engines k.shown q damage
+HasMet moments content k q damage = IsMet moments content k.engines q damage ⊎ IsShownAt content k.engines k.shown q damage
 
 -- what a fault says of it
 abbrev pub IsTrueHere : {S W D F : Type 0} → (S → List Disk) → (D → List DiskFile) → (F → Option (List ℕ)) → KeeperState S D F W → RunFault → Type 0
 IsTrueHere disks moments content k = IsSaid (HasSpent disks moments content k) (HasMet moments content k)
 
 -- once it has ended: this is damage of the one of this number, or was met by a scan of what was shown of it
-abbrev pub IsMetBehind : {S W D F P : Type 0} → (D → List DiskFile) → (F → Option (List ℕ)) → Partitions S P W D F → ℕ → Damage → Type 0
-IsMetBehind moments content p q damage = (q < length p.engines) × (IsMet moments content p q damage ⊎ WasShownAt content p.engines q damage)
+abbrev pub IsMetBehind : {S W D F : Type 0} → (D → List DiskFile) → (F → Option (List ℕ)) → List (WithJobs S D F W) → ℕ → Damage → Type 0
+IsMetBehind moments content es q damage = (q < length es) × (IsMet moments content es q damage ⊎ WasShownAt content es q damage)
 
 -- A part of this partition has it, over a store and watches of these types. The components that it listed are its own.
 pub record IsOfPart {D F : Type 0} (S W : Type 0) (moments : D → List DiskFile) (content : F → Option (List ℕ)) (here : Partition) (damage : Damage) : Type 0 where
@@ -124,9 +123,9 @@ pub record IsOfPart {D F : Type 0} (S W : Type 0) (moments : D → List DiskFile
 abbrev pub IsMetIn : {D F : Type 0} → Type 0 → Type 0 → (D → List DiskFile) → (F → Option (List ℕ)) → Partition → Damage → Type 0
 IsMetIn S W moments content here damage = IsOfPart S W moments content here damage ⊎ WasShown W content here.number here.count damage
 
--- and what a fault says of the partitions that are left
-abbrev pub IsTrueBehind : {S W D F P : Type 0} → (S → List Disk) → (D → List DiskFile) → (F → Option (List ℕ)) → Partitions S P W D F → RunFault → Type 0
-IsTrueBehind disks moments content p = IsSaid (IsSpent disks moments content p) (IsMetBehind moments content p)
+-- and what a fault says of the engines that are left
+abbrev pub IsTrueBehind : {S W D F : Type 0} → (S → List Disk) → (D → List DiskFile) → (F → Option (List ℕ)) → List (WithJobs S D F W) → RunFault → Type 0
+IsTrueBehind disks moments content es = IsSaid (IsSpent disks moments content es) (IsMetBehind moments content es)
 
 -- ---- what was counted
 
@@ -142,7 +141,7 @@ counted_out counts (Some w) counted = option_map (λ (f : KitFaults). record f {
 
 -- by the partition; a watch that is out counts as it went out
 unfoldable pub faults_kept : {S W D F : Type 0} → (W → Counts) → KeeperState S D F W → DiskFaults
-faults_kept counts k = λ q. counted_out counts (watch_out k.scan q) (option_map (faults_at counts) (slice_get k.engines q))
+faults_kept counts k = λ q. counted_out counts (watch_out k.scan q) (faults_of counts k.engines q)
 
 -- ---- where the traits of the store tell the moments of a store and of a device, and a file's content
 

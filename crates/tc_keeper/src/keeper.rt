@@ -1,12 +1,13 @@
-//! What keeps the documents of a run: the partitions, what they show to scans, and the scan that is out.
+//! What keeps the documents of a run: the engines of its partitions, what each shows to scans, and the scan that is out.
 
 ghost use Rattle.std.specs.Prelude.{◌≡◌, ◌∷◌, [], length, map, All, None, Some, IfErr, IfOk, IfSome, is_some, true};
 ghost use Rattle.tc_keeper.specs.Faults.{fault_in};
 ghost use Rattle.tc_keeper.specs.Partitions.{collected_as};
 
+use crate::answering::{answer_window, flush_all, flushed_schemas, settle_all};
+use crate::engines::Engines;
 use crate::fault::{RunFault, of_scan};
 use crate::lending::{lend_lenses, lend_watches, take_back};
-use crate::partitions::Partitions;
 use crate::showing::{end_all, place_all, show_all, write_all};
 use left_right::Absorb;
 use std::alloc::Global;
@@ -21,14 +22,14 @@ use tc_store::Store;
 use tc_view::{Content, Step, View, histories_hold_writes};
 use tc_work::Seen;
 
-/// The partitions of a store that is open, what is shown of each beside its engine, and the scan that is out, if one is. What an
-/// engine did is shown behind it, before a reply says so. After a call that errs no more is asked of it but its end. It is not `Drop`,
-/// since what is shown is not: end it by `end`.
+/// The engines of the partitions of a store that is open, what is shown of each beside its engine, and the scan that is out, if one is.
+/// What an engine did is shown behind it, before a reply says so. After a call that errs no more is asked of it but its end. It is not
+/// `Drop`, since what is shown is not: end it by `end`.
 pub struct Keeper<S: Store, P: Pace>
 where
     View<S::Frozen>: Absorb<Step<S::Frozen>, State = Content<S::Frozen>>,
 {
-    partitions: Partitions<S, P>,
+    engines: Engines<S, P>,
     shown: Vec<Shown<S::Frozen>>,
     scan: Option<RunningScan<S::Frozen>>,
     pace: Arc<P>,
@@ -50,9 +51,9 @@ where
 
     ghost coded = { Prim.hlevel (codes, book_coded, coded_table, coded_counted, coded_document, coded_hop) };
 
-    ghost view = { λ k. record { engines = k.partitions.engines; shown = k.shown.items; scan = k.scan } };
+    ghost view = { λ k. record { engines = k.engines; shown = k.shown.items; scan = k.scan } };
 
-    ghost invariant = { λ k. IsManned S.Frozen.content (record { engines = k.partitions.engines; shown = k.shown.items; scan = k.scan }) };
+    ghost invariant = { λ k. IsManned S.Frozen.content (record { engines = k.engines; shown = k.shown.items; scan = k.scan }) };
 }
 
 #[tactic(auto, unfolding(crate::specs::Keeping::MayServe, crate::specs::Keeping::ServesAt, crate::specs::Keeping::FailsAt, crate::specs::Keeping::AllRest, crate::specs::Keeping::faults_kept, crate::specs::Keeping::HasSpent, crate::specs::Keeping::HasMet))]
@@ -68,40 +69,42 @@ impl<S: Store, P: Pace> Keeper<S, P> {
     ghost use Rattle.tc_run_model.specs.Known.{MayRender, MayReply};
     ghost use Rattle.tc_run_model.specs.World.{World, after_all};
     ghost use Rattle.tc_store.specs.declared.damage.Damage.{Damage};
-    ghost use Rattle.tc_keeper.specs.Calls.{faults_of, settings_of, HoldsAt, IsSpent, KeepsAt, MayAsk, Rests};
+    ghost use Rattle.tc_keeper.specs.Calls.{faults_of, settings_of, IsSpent, MayAsk, Rests};
     ghost use Rattle.tc_keeper.specs.Faults.{fault_in, HasDiskCause, IsNoDamage, IsOfJob, IsOfStore};
     ghost use Rattle.tc_keeper.specs.Keeping.{faults_kept, settings_kept, AllRest, AreUnwritten, FailsAt, HasMet, HasSpent, IsMetBehind, IsTrueHere, MayServe, ServesAt};
+    ghost use Rattle.tc_keeper.specs.Partitions.{StandAt};
     ghost use Rattle.tc_keeper.specs.Sight.{sees, sight_after, whole_of, IsFirst, Sight};
+    ghost use Rattle.tc_keeper.specs.Standing.{KeepWorlds};
     ghost use Rattle.tc_keeper.specs.Together.{requests_routed, AreTogether};
 
-    /// Shows partitions that were opened. For want of memory they are given back.
+    /// Shows partitions whose engines were opened. For want of memory these are given back.
     pub fn open<R: Wait>(
         rt: &R,
         alloc: Global,
-        partitions: Partitions<S, P>,
+        engines: Engines<S, P>,
         pace: Arc<P>,
-    ) -> Result<Keeper<S, P>, Partitions<S, P>>
-        requires works { MayAsk S.history S.Device.history S.Frozen.content partitions }
-        requires begun { AreUnwritten partitions.engines }
-        ensures opened { IfOk result (λ k. (k.engines ≡ partitions.engines) × (k.scan ≡ None)) }
-        ensures held { IfOk result (λ k. (known : Sight) → IsFirst known → HoldsAt ⟦<S as Seen>⟧.eyes partitions known → ServesAt ⟦<S as Seen>⟧.eyes k known) }
-        ensures back { IfErr result (λ back. back ≡ partitions) }
+    ) -> Result<Keeper<S, P>, Engines<S, P>>
+        requires works { MayAsk S.history S.Device.history S.Frozen.content engines }
+        requires begun { AreUnwritten engines }
+        ensures opened { IfOk result (λ k. (k.engines ≡ engines) × (k.scan ≡ None)) }
+        ensures held { IfOk result (λ k. (known : Sight) → IsFirst known → StandAt ⟦<S as Seen>⟧.eyes engines known → ServesAt ⟦<S as Seen>⟧.eyes k known) }
+        ensures back { IfErr result (λ back. back ≡ engines) }
     {
         parts_are_shown::<S::Frozen>();
-        let mut shown = match Vec::with_capacity(alloc, partitions.engines.len()) {
+        let mut shown = match Vec::with_capacity(alloc, engines.len()) {
             Ok(shown) => shown,
-            Err(_) => return Err(partitions),
+            Err(_) => return Err(engines),
         };
-        match show_all(rt, alloc, &partitions.engines, &mut shown) {
+        match show_all(rt, alloc, &engines, &mut shown) {
             Ok(()) => Ok(Keeper {
-                partitions,
+                engines,
                 shown,
                 scan: None,
                 pace,
             }),
             Err(_) => {
                 end_all(rt, shown);
-                Err(partitions)
+                Err(engines)
             }
         }
     }
@@ -127,7 +130,7 @@ impl<S: Store, P: Pace> Keeper<S, P> {
     {
         parts_are_shown::<S::Frozen>();
         let mut frames = Vec::new(alloc);
-        let replies = self.partitions.window(rt, alloc, commands, &mut frames)?;
+        let replies = answer_window(rt, alloc, &mut self.engines, commands, &mut frames)?;
         write_all(rt, alloc, &mut self.shown, &mut frames)?;
         Ok(replies)
     }
@@ -151,8 +154,8 @@ impl<S: Store, P: Pace> Keeper<S, P> {
         ensures cause { HasDiskCause (faults_kept (λ w. S.Watch.counts w) self.old) (faults_kept (λ w. S.Watch.counts w) self.new) (IsTrueHere S.history S.Device.history S.Frozen.content self.new) (fault_in result) }
     {
         parts_are_shown::<S::Frozen>();
-        self.partitions.settle(rt, alloc)?;
-        place_all(rt, &self.partitions.engines, &mut self.shown)?;
+        settle_all(rt, alloc, &mut self.engines)?;
+        place_all(rt, &self.engines, &mut self.shown)?;
         Ok(())
     }
 
@@ -174,8 +177,8 @@ impl<S: Store, P: Pace> Keeper<S, P> {
         ensures cause { HasDiskCause (faults_kept (λ w. S.Watch.counts w) self.old) (faults_kept (λ w. S.Watch.counts w) self.new) (IsTrueHere S.history S.Device.history S.Frozen.content self.new) (fault_in result) }
     {
         parts_are_shown::<S::Frozen>();
-        self.partitions.flush(rt, alloc)?;
-        place_all(rt, &self.partitions.engines, &mut self.shown)?;
+        flush_all(rt, alloc, &mut self.engines)?;
+        place_all(rt, &self.engines, &mut self.shown)?;
         Ok(())
     }
 
@@ -198,8 +201,8 @@ impl<S: Store, P: Pace> Keeper<S, P> {
         ensures cause { HasDiskCause (faults_kept (λ w. S.Watch.counts w) self.old) (faults_kept (λ w. S.Watch.counts w) self.new) (IsTrueHere S.history S.Device.history S.Frozen.content self.new) (fault_in result) }
     {
         parts_are_shown::<S::Frozen>();
-        let schemas = self.partitions.schemas(rt, alloc)?;
-        place_all(rt, &self.partitions.engines, &mut self.shown)?;
+        let schemas = flushed_schemas(rt, alloc, &mut self.engines)?;
+        place_all(rt, &self.engines, &mut self.shown)?;
         Ok(schemas)
     }
 
@@ -232,7 +235,7 @@ impl<S: Store, P: Pace> Keeper<S, P> {
         let beginning = Beginning::new(alloc, &self.pace, Point::ScanStarted)?;
         let passes = Vec::with_capacity(alloc, self.shown.len())?;
         let lenses = lend_lenses(alloc, &mut self.shown)?;
-        let passes = lend_watches(&mut self.partitions.engines, lenses, passes);
+        let passes = lend_watches(&mut self.engines, lenses, passes);
         let scan = Scan { passes, ask };
         self.scan = Some(RunningScan::start(rt, alloc, scan, beginning));
         Ok(Reply::Started)
@@ -263,28 +266,28 @@ impl<S: Store, P: Pace> Keeper<S, P> {
             None => Ok(Reply::Refused(Refusal::NoScan)),
             Some(scan) => {
                 let ScanOut { passes, outcome } = scan.join(rt);
-                let covered = take_back(&mut self.partitions.engines, &self.shown, passes);
+                let covered = take_back(&mut self.engines, &self.shown, passes);
                 reply_to_collect(covered, outcome)
             }
         }
     }
 
-    /// Ends it: waits for the scan that is out, whose rows nobody collects any more, and gives the partitions back, with the fault of
+    /// Ends it: waits for the scan that is out, whose rows nobody collects any more, and gives the engines back, with the fault of
     /// that scan, if it failed.
-    pub fn end<R: Threads + Wait>(self, rt: &R) -> (Partitions<S, P>, Option<RunFault>)
+    pub fn end<R: Threads + Wait>(self, rt: &R) -> (Engines<S, P>, Option<RunFault>)
     where
         S: 'static,
         S::Device: 'static,
         S::Frozen: 'static,
         S::Watch: 'static,
         P: 'static,
-        ensures held { (known : Sight) → ServesAt ⟦<S as Seen>⟧.eyes self known → HoldsAt ⟦<S as Seen>⟧.eyes result.0 known }
-        ensures failed { (only : Option ℕ) (w v : World) → FailsAt ⟦<S as Seen>⟧.eyes self only w v → KeepsAt ⟦<S as Seen>⟧.eyes result.0 only w v }
+        ensures held { (known : Sight) → ServesAt ⟦<S as Seen>⟧.eyes self known → StandAt ⟦<S as Seen>⟧.eyes result.0 known }
+        ensures failed { (only : Option ℕ) (w v : World) → FailsAt ⟦<S as Seen>⟧.eyes self only w v → KeepWorlds ⟦<S as Seen>⟧.eyes only result.0 w v }
         ensures rests { AllRest (λ d. S.Device.size d) self → Rests (λ d. S.Device.size d) result.0 }
         ensures spent { HasSpent S.history S.Device.history S.Frozen.content self → IsSpent S.history S.Device.history S.Frozen.content result.0 }
         ensures met { (q : ℕ) (damage : Damage) → HasMet S.Device.history S.Frozen.content self q damage → IsMetBehind S.Device.history S.Frozen.content result.0 q damage }
         ensures settings { settings_of result.0 ≡ settings_kept self }
-        ensures readers { All (λ e. is_some e.engine.part.reader ≡ true) result.0.engines }
+        ensures readers { All (λ e. is_some e.engine.part.reader ≡ true) result.0 }
         ensures undamaged { (only : Option ℕ) (w : World) → ServesAt ⟦<S as Seen>⟧.eyes self (sees only w) → IfSome result.1 (IsNoDamage only) }
         ensures kind { IfSome result.1 IsOfJob }
         ensures cause { HasDiskCause (faults_kept (λ w. S.Watch.counts w) self) (faults_of (λ w. S.Watch.counts w) result.0) (IsTrueHere S.history S.Device.history S.Frozen.content self) result.1 }
@@ -292,22 +295,22 @@ impl<S: Store, P: Pace> Keeper<S, P> {
         parts_are_shown::<S::Frozen>();
         histories_hold_writes::<S::Frozen>();
         let Keeper {
-            partitions,
+            engines,
             shown,
             scan,
             pace: _pace,
         } = self;
-        let mut partitions = partitions;
+        let mut engines = engines;
         match scan {
             None => {
                 end_all(rt, shown);
-                (partitions, None)
+                (engines, None)
             }
             Some(scan) => {
                 let ScanOut { passes, outcome } = scan.join(rt);
-                let covered = take_back(&mut partitions.engines, &shown, passes);
+                let covered = take_back(&mut engines, &shown, passes);
                 end_all(rt, shown);
-                (partitions, fault_of_scan(covered, outcome))
+                (engines, fault_of_scan(covered, outcome))
             }
         }
     }

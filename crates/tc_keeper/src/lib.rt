@@ -1,13 +1,13 @@
-//! Layer 5, engine: what keeps the documents of a run, which are its partitions, what they show to scans, and the scan that is out.
+//! Layer 5, engine: what keeps the documents of a run, which are the engines of its partitions, what each shows to scans, and the scan that is out.
 #![tactic(auto)]
 
+mod answering;
 mod engines;
 mod engines_fault;
 mod fault;
 mod flushing;
 mod keeper;
 mod lending;
-mod partitions;
 mod schema_texts;
 mod seat;
 mod settling;
@@ -18,4 +18,3 @@ pub use engines::Engines;
 pub use engines_fault::EnginesFault;
 pub use fault::{RunFault, of_engine};
 pub use keeper::Keeper;
-pub use partitions::Partitions;

@@ -5,7 +5,7 @@ use Rattle.std.proofs.lemmas.List.{length-map}
 use Rattle.std.proofs.lemmas.List.Elements.{All-cons, All-head, All-nil, All-tail, All-weaker}
 use Rattle.std.proofs.lemmas.Option.{slice_get-map}
 use Rattle.tc_keeper.specs.Places.{AtEach, EachFrom, SomeFrom}
-use Rattle.tc_keeper.specs.Standing.{partition_at, HoldsPart, IsSeen}
+use Rattle.tc_keeper.specs.Standing.{partition_at, HoldsPart, IsSeen, KeepWorlds}
 use Rattle.tc_keeper.specs.WithJobs.{settings, told_of, works_of, Settings, WithJobs}
 use Rattle.tc_keeper.proofs.PlaceLaws.{at_each-length}
 use Rattle.tc_list.specs.Policies.{listed_least}
@@ -25,7 +25,7 @@ use Rattle.tc_work.specs.Faults.{IfDamaged as IfEngineDamaged}
 use Rattle.tc_work.specs.Moving.{Eyes}
 use Rattle.tc_work.specs.declared.fault.EngineFault.{EngineFault}
 use Rattle.tc_work.specs.declared.fault.EngineFault.TheVariants as engine
-use Rattle.tc_keeper.specs.Calls.{faults_at, faults_of, settings_of, HoldsAt, IsMet, IsSpent, IsSpentAt, KeepsAt, MayAsk, MayBeAsked, Rests}
+use Rattle.tc_keeper.specs.Calls.{faults_at, faults_of, settings_of, IsSpent, IsSpentAt, MayAsk, MayBeAsked, Rests}
 use Rattle.tc_keeper.specs.Faults.{fault_in, fault_of_engine, HaveRisen, HaveStayed, IfDamaged, IfDisk, IsNoDamage, IsOfJob, NoneFell, OneRose}
 use Rattle.tc_keeper.specs.Keeping.{AreUnwritten, IsMetBehind, IsMetIn, WasShown}
 use Rattle.tc_server.specs.Ending.{policy_asked}
@@ -35,7 +35,6 @@ use Rattle.tc_keeper.specs.Partitions.{StandAt}
 use Rattle.tc_keeper.specs.Sight.{nothing, sees, IfKnown, Sight}
 use Rattle.tc_keeper.specs.declared.fault.RunFault.{RunFault}
 use Rattle.tc_keeper.specs.declared.fault.RunFault.TheVariants.{Usage, Read, Write, Spent, Disk as DiskFault, Damaged, Memory, Layout}
-use Rattle.tc_keeper.specs.declared.partitions.Partitions.{Partitions}
 use Rattle.tc_keeper.proofs.Causes.{none_fell_twice, one_rose}
 use Rattle.tc_server.proofs.ClosingFaults.{all_well, ended_by, is_of_job, IsEndedBy}
 use Rattle.tc_keeper.proofs.EachLaws.{at_each-at, at_each-from, at_each-then, each-at, each-map, some-beside, there}
@@ -67,17 +66,12 @@ ok_where (Err fault) none p = absurd (cc)
 all_asked : {S D F W : Type 0} (eyes : Eyes S D F W) (options : Options) (es : List (WithJobs S D F W)) → All (IsBegun eyes options) es → All (λ e. MayBeAsked (told_of eyes e) e.engine.part) es
 all_asked eyes options es begun = All-weaker (IsBegun eyes options) (λ e. MayBeAsked (told_of eyes e) e.engine.part) (λ e b. b.ready) es begun
 
-pub begins_asked : {S W D F P : Type 0} (eyes : Eyes S D F W) (options : Options) (es : List (WithJobs S D F W)) (k : Partitions S P W D F) → k ≡ record { engines = es } → length es ≡ options.partitions
-    → 0 < options.partitions → options.partitions ≤ 16 → All (IsBegun eyes options) es → MayAsk eyes.disks eyes.history eyes.content k
-unfolding MayAsk
-begins_asked eyes options es k is all some few begun = subst (MayAsk eyes.disks eyes.history eyes.content) (sym is) (omega (arith, some, all), omega (arith, few, all), all_asked eyes options es begun)
+pub begins_asked : {S W D F : Type 0} (eyes : Eyes S D F W) (options : Options) (es : List (WithJobs S D F W)) → length es ≡ options.partitions
+    → 0 < options.partitions → options.partitions ≤ 16 → All (IsBegun eyes options) es → MayAsk eyes.disks eyes.history eyes.content es
+begins_asked eyes options es all some few begun = (omega (arith, some, all), omega (arith, few, all), all_asked eyes options es begun)
 
 pub unwritten_all : {S W D F : Type 0} (eyes : Eyes S D F W) (options : Options) (es : List (WithJobs S D F W)) → All (IsBegun eyes options) es → AreUnwritten es
 unwritten_all eyes options es begun = All-weaker (IsBegun eyes options) (λ e. (e.engine.part.sealed ≡ None) × (e.engine.part.active ≡ []) × (is_some e.engine.part.reader ≡ true)) (λ e b. (b.unsealed, b.empty, b.reader)) es begun
-
-pub begins_held : {S W D F P : Type 0} (eyes : Eyes S D F W) (es : List (WithJobs S D F W)) (k : Partitions S P W D F) (first : Sight) → k ≡ record { engines = es } → StandAt eyes es first → HoldsAt eyes k first
-unfolding HoldsAt
-begins_held eyes es k first is stands = subst (λ p. HoldsAt eyes p first) (sym is) stands
 
 -- a world at which engines stand has as many partitions
 pub as_many_parts : {S D F W : Type 0} (eyes : Eyes S D F W) (count : ℕ) (es : List (WithJobs S D F W)) (first : Sight) → length es ≡ count → StandAt eyes es first → IfKnown first (λ only w. length w.parts ≡ count)
@@ -86,8 +80,8 @@ as_many_parts eyes count es (sees only w) all stands = sym (at_each-length (λ p
 
 -- ---- settings
 
-pub as_many_engines : {S W D F P : Type 0} (k k' : Partitions S P W D F) → settings_of k' ≡ settings_of k → length k'.engines ≡ length k.engines
-as_many_engines k k' same = sym (length-map k'.engines settings) ∙ ap length same ∙ length-map k.engines settings
+pub as_many_engines : {S W D F : Type 0} (es es' : List (WithJobs S D F W)) → settings_of es' ≡ settings_of es → length es' ≡ length es
+as_many_engines es es' same = sym (length-map es' settings) ∙ ap length same ∙ length-map es settings
 
 -- as the options say
 abbrev SetBy : Options → Settings → Type 0
@@ -117,42 +111,38 @@ set_read options (e ∷ es) sets =
 
 -- ---- what is left
 
-module _ {S W D F P K : Type 0} (eyes : Eyes S D F W) (size : D → ℕ) (outcome : K → Result (Unit {0}) EngineFault) (left : K → List Disk) (faults : K → KitFaults) (k' : Partitions S P W D F) (ks : List K) (closed : AreClosed eyes size outcome left faults k'.engines ks) where
+module _ {S W D F K : Type 0} (eyes : Eyes S D F W) (size : D → ℕ) (outcome : K → Result (Unit {0}) EngineFault) (left : K → List Disk) (faults : K → KitFaults) (es' : List (WithJobs S D F W)) (ks : List K) (closed : AreClosed eyes size outcome left faults es' ks) where
   -- the fault with which the engines ended, if any did
   abbrev Ended : Option RunFault
   Ended = least_fault 0 (map outcome ks)
 
-  pub kits_left : (options : Options) (es : List (WithJobs S D F W)) (k : Partitions S P W D F) → ((e : WithJobs S D F W) → IfTold (told_of eyes e).log (λ f. size e.engine.part.log.device ≡ length f.content))
-      → k ≡ record { engines = es } → length es ≡ options.partitions → 2 ≤ options.merge → options.merge ≤ 9 → empty_size < options.memory → All (IsBegun eyes options) es
-      → settings_of k' ≡ settings_of k → LeavesKits (HoldsAt eyes) (KeepsAt eyes) (Rests size k' × (Ended ≡ None)) options k' (map left ks)
-  unfolding HoldsAt KeepsAt Rests
-  kits_left options es k sized is all two nine long begun settings = record {
-    held = λ only w worlds many one_of held. each-map left (λ p d. _) 0 ks (held_kits eyes size outcome left faults only options.partitions w worlds k'.engines ks many one_of held closed);
-    kept = λ only w v worlds many one_of other_of kept. each-map left (λ p d. _) 0 ks (kept_kits eyes size outcome left faults only options.partitions w v worlds k'.engines ks many one_of other_of kept closed);
-    small = λ rests only w many at. each-map left (λ p d. _) 0 ks (held_small eyes size outcome left faults sized only options w k'.engines ks many two nine long sets rests.0 (all_well outcome 0 ks rests.1)
-        (elim at [ inl held ↦ held.each | inr kept ↦ all_hold eyes size outcome left faults only w k'.engines rests.0 kept ]) closed);
-    as_many = length-map ks left ∙ sym (at_each-length (λ p e k. IsClosed eyes size e (outcome k) (left k) (faults k)) 0 k'.engines ks closed) ∙ as_many_engines k k' settings ∙ ap (λ (p : Partitions S P W D F). length p.engines) is ∙ all;
+  pub kits_left : (options : Options) (es : List (WithJobs S D F W)) → ((e : WithJobs S D F W) → IfTold (told_of eyes e).log (λ f. size e.engine.part.log.device ≡ length f.content))
+      → length es ≡ options.partitions → 2 ≤ options.merge → options.merge ≤ 9 → empty_size < options.memory → All (IsBegun eyes options) es
+      → settings_of es' ≡ settings_of es → LeavesKits (StandAt eyes) (λ es only. KeepWorlds eyes only es) (Rests size es' × (Ended ≡ None)) options es' (map left ks)
+  kits_left options es sized all two nine long begun settings = record {
+    held = λ only w worlds many one_of held. each-map left (λ p d. _) 0 ks (held_kits eyes size outcome left faults only options.partitions w worlds es' ks many one_of held closed);
+    kept = λ only w v worlds many one_of other_of kept. each-map left (λ p d. _) 0 ks (kept_kits eyes size outcome left faults only options.partitions w v worlds es' ks many one_of other_of kept closed);
+    small = λ rests only w many at. each-map left (λ p d. _) 0 ks (held_small eyes size outcome left faults sized only options w es' ks many two nine long sets rests.0 (all_well outcome 0 ks rests.1)
+        (elim at [ inl held ↦ held.each | inr kept ↦ all_hold eyes size outcome left faults only w es' rests.0 kept ]) closed);
+    as_many = length-map ks left ∙ sym (at_each-length (λ p e k. IsClosed eyes size e (outcome k) (left k) (faults k)) 0 es' ks closed) ∙ as_many_engines es es' settings ∙ all;
   }
     where
-      sets : All (IsSet eyes size outcome left faults options) k'.engines
-      sets = set_read options k'.engines (subst (All (SetBy options)) (sym settings)
-          (subst (λ (p : Partitions S P W D F). All (SetBy options) (settings_of p)) (sym is)
-          (set_begun eyes options es begun)))
+      sets : All (IsSet eyes size outcome left faults options) es'
+      sets = set_read options es' (subst (All (SetBy options)) (sym settings) (set_begun eyes options es begun))
 
-  pub last_left : IsSpent eyes.disks eyes.history eyes.content k' → SomeFrom (λ p kit. IfTold (left kit) HasLastGeneration) 0 ks
-  unfolding IsSpent
+  pub last_left : IsSpent eyes.disks eyes.history eyes.content es' → SomeFrom (λ p kit. IfTold (left kit) HasLastGeneration) 0 ks
   last_left spent =
-      some-beside (λ q e. IsSpentAt (told_of eyes e) e.engine.part) (λ p e k. IsClosed eyes size e (outcome k) (left k) (faults k)) (λ p kit. IfTold (left kit) HasLastGeneration) 0 k'.engines ks
+      some-beside (λ q e. IsSpentAt (told_of eyes e) e.engine.part) (λ p e k. IsClosed eyes size e (outcome k) (left k) (faults k)) (λ p kit. IfTold (left kit) HasLastGeneration) 0 es' ks
       (λ p e kit spent c. c.last spent) spent closed
 
   -- ---- a fault with which an engine ended
 
   -- the engine of the kit at a place
-  ended_at : (p : ℕ) (kit : K) → slice_get ks p ≡ Some kit → (e : WithJobs S D F W) × (slice_get k'.engines p ≡ Some e) × IsClosed eyes size e (outcome kit) (left kit) (faults kit)
+  ended_at : (p : ℕ) (kit : K) → slice_get ks p ≡ Some kit → (e : WithJobs S D F W) × (slice_get es' p ≡ Some e) × IsClosed eyes size e (outcome kit) (left kit) (faults kit)
   ended_at p kit is =
-      let many = at_each-length (λ p e k. IsClosed eyes size e (outcome k) (left k) (faults k)) 0 k'.engines ks closed in
-      let e = there k'.engines p (omega (arith, many, below ks p kit is)) in
-      let at = at_each-at (λ p e k. IsClosed eyes size e (outcome k) (left k) (faults k)) p k'.engines ks e.0 closed e.1 in
+      let many = at_each-length (λ p e k. IsClosed eyes size e (outcome k) (left k) (faults k)) 0 es' ks closed in
+      let e = there es' p (omega (arith, many, below ks p kit is)) in
+      let at = at_each-at (λ p e k. IsClosed eyes size e (outcome k) (left k) (faults k)) p es' ks e.0 closed e.1 in
       let same : at.0 ≡ kit = let one = at.1 in cc in
       (e.0, e.1, subst (λ kit. IsClosed eyes size e.0 (outcome kit) (left kit) (faults kit)) same at.2)
 
@@ -165,18 +155,17 @@ module _ {S W D F P K : Type 0} (eyes : Eyes S D F W) (size : D → ℕ) (outcom
   ended_of = if_some Ended (λ fault is. is_job fault (ended_by outcome 0 ks fault is))
 
   -- it is no damage of a partition of which it is known what it stores
-  sound_at : (only : Option ℕ) (w : World) (fault : RunFault) → AtEach (λ p e part. IsSeen only p → HoldsPart (works_of eyes e) (told_of eyes e) e.engine.part.limits (partition_at p (length w.parts)) w part) 0 k'.engines w.parts → IsEndedBy outcome 0 ks fault → IsNoDamage only fault
+  sound_at : (only : Option ℕ) (w : World) (fault : RunFault) → AtEach (λ p e part. IsSeen only p → HoldsPart (works_of eyes e) (told_of eyes e) e.engine.part.limits (partition_at p (length w.parts)) w part) 0 es' w.parts → IsEndedBy outcome 0 ks fault → IsNoDamage only fault
   sound_at only w fault held b =
       let at = ended_at b.place b.ended b.at in
-      let part = at_each-at (λ p e part. IsSeen only p → HoldsPart (works_of eyes e) (told_of eyes e) e.engine.part.limits (partition_at p (length w.parts)) w part) b.place k'.engines w.parts at.0 held at.1 in
+      let part = at_each-at (λ p e part. IsSeen only p → HoldsPart (works_of eyes e) (told_of eyes e) e.engine.part.limits (partition_at p (length w.parts)) w part) b.place es' w.parts at.0 held at.1 in
       let same : 0 + b.place ≡ b.place = omega arith in
       subst (IsNoDamage only) b.is (undamaged_at only (0 + b.place) b.why
       (λ seen. let h = part.2 (subst (λ p. IsSeen only p) same seen) in subst (λ r. IfErr r (λ fault. IfEngineDamaged fault (λ damage. ⊥))) b.by (at.2.undamaged h.view h.is h.tells h.jobs)))
 
-  pub ended_sound : Rests size k' → (only : Option ℕ) (w : World) → HoldsAt eyes k' (sees only w) ⊎ KeepsAt eyes k' only w w → IfSome Ended (IsNoDamage only)
-  unfolding HoldsAt KeepsAt Rests
+  pub ended_sound : Rests size es' → (only : Option ℕ) (w : World) → StandAt eyes es' (sees only w) ⊎ KeepWorlds eyes only es' w w → IfSome Ended (IsNoDamage only)
   ended_sound rests only w at =
-      if_some Ended (λ fault is. sound_at only w fault (elim at [ inl held ↦ held.each | inr kept ↦ all_hold eyes size outcome left faults only w k'.engines rests kept ]) (ended_by outcome 0 ks fault is))
+      if_some Ended (λ fault is. sound_at only w fault (elim at [ inl held ↦ held.each | inr kept ↦ all_hold eyes size outcome left faults only w es' rests kept ]) (ended_by outcome 0 ks fault is))
 
 -- ---- what counts
 
@@ -198,13 +187,12 @@ module _ {S W D F K : Type 0} (counts : W → Counts) (faults : K → KitFaults)
       → NoneFell (faults_at counts e) (faults_at counts e')
   one_stayed es es' p e e' stayed is is' = subst (λ o. HaveStayed (Some (faults_at counts e)) (option_map (λ e. faults_at counts e) o)) is' (subst (λ o. HaveStayed (option_map (λ e. faults_at counts e) o) (option_map (λ e. faults_at counts e) (slice_get es' p))) is stayed)
 
-  pub counts_over : {P : Type 0} (k k' : Partitions S P W D F) (ks : List K) → settings_of k' ≡ settings_of k → ((p : ℕ) → HaveStayed (faults_of counts k p) (faults_of counts k' p)) → AtEach Counted 0 k'.engines ks
-      → AtEach (λ p e kit. NoneFell (faults_at counts e) (faults kit)) 0 k.engines ks
-  unfolding faults_of
-  counts_over k k' ks settings stayed closed =
-      at_each-then (λ p e e'. NoneFell (faults_at counts e) (faults_at counts e')) Counted (λ p e kit. NoneFell (faults_at counts e) (faults kit)) 0 k.engines k'.engines ks
+  pub counts_over : (es es' : List (WithJobs S D F W)) (ks : List K) → settings_of es' ≡ settings_of es → ((p : ℕ) → HaveStayed (faults_of counts es p) (faults_of counts es' p)) → AtEach Counted 0 es' ks
+      → AtEach (λ p e kit. NoneFell (faults_at counts e) (faults kit)) 0 es ks
+  counts_over es es' ks settings stayed closed =
+      at_each-then (λ p e e'. NoneFell (faults_at counts e) (faults_at counts e')) Counted (λ p e kit. NoneFell (faults_at counts e) (faults kit)) 0 es es' ks
       (λ p e e' kit fell more. none_fell_twice (faults_at counts e) (faults_at counts e') (faults kit) fell more)
-      (at_each-from (λ p e e'. NoneFell (faults_at counts e) (faults_at counts e')) 0 k.engines k'.engines (sym (as_many_engines k k' settings)) (λ p e e'. one_stayed k.engines k'.engines p e e' (stayed p)))
+      (at_each-from (λ p e e'. NoneFell (faults_at counts e) (faults_at counts e')) 0 es es' (sym (as_many_engines es es' settings)) (λ p e e'. one_stayed es es' p e e' (stayed p)))
       closed
 
   -- the counts of the partition of a number rose
@@ -226,52 +214,50 @@ module _ {S W D F K : Type 0} (counts : W → Counts) (faults : K → KitFaults)
       let here' : slice_get es' q ≡ Some e' = subst (λ p. slice_get es' p ≡ Some e') same is' in
       subst (λ o. HaveRisen (Some (faults_at counts e)) (option_map (λ e. faults_at counts e) o)) here' (subst (λ o. HaveRisen (option_map (λ e. faults_at counts e) o) (option_map (λ e. faults_at counts e) (slice_get es' q))) here risen)
 
-  disk_at : {P : Type 0} (k k' : Partitions S P W D F) (ks : List K) (q : ℕ) → settings_of k' ≡ settings_of k → HaveRisen (faults_of counts k q) (faults_of counts k' q) → AtEach Counted 0 k'.engines ks
-      → (q < length k.engines) × AtEach (λ p e kit. p ≡ q → OneRose (faults_at counts e) (faults kit)) 0 k.engines ks
-  unfolding faults_of
-  disk_at k k' ks q settings risen closed = (
-    rose_there k.engines k'.engines q risen,
-    at_each-then (λ p e e'. p ≡ q → OneRose (faults_at counts e) (faults_at counts e')) Counted (λ p e kit. p ≡ q → OneRose (faults_at counts e) (faults kit)) 0 k.engines k'.engines ks
+  disk_at : (es es' : List (WithJobs S D F W)) (ks : List K) (q : ℕ) → settings_of es' ≡ settings_of es → HaveRisen (faults_of counts es q) (faults_of counts es' q) → AtEach Counted 0 es' ks
+      → (q < length es) × AtEach (λ p e kit. p ≡ q → OneRose (faults_at counts e) (faults kit)) 0 es ks
+  disk_at es es' ks q settings risen closed = (
+    rose_there es es' q risen,
+    at_each-then (λ p e e'. p ≡ q → OneRose (faults_at counts e) (faults_at counts e')) Counted (λ p e kit. p ≡ q → OneRose (faults_at counts e) (faults kit)) 0 es es' ks
         (λ p e e' kit rose more here. one_rose_then (faults_at counts e) (faults_at counts e') (faults kit) (rose here) more)
-        (at_each-from (λ p e e'. p ≡ q → OneRose (faults_at counts e) (faults_at counts e')) 0 k.engines k'.engines (sym (as_many_engines k k' settings)) (λ p e e' is is' same. one_rose_at k.engines k'.engines q p e e' risen is is' (shift p q same)))
+        (at_each-from (λ p e e'. p ≡ q → OneRose (faults_at counts e) (faults_at counts e')) 0 es es' (sym (as_many_engines es es' settings)) (λ p e e' is is' same. one_rose_at es es' q p e e' risen is is' (shift p q same)))
         closed,
   )
 
-  pub disk_over : {P : Type 0} (k k' : Partitions S P W D F) (ks : List K) (fault : Option RunFault) → settings_of k' ≡ settings_of k → IfSome fault (λ f. IfDisk f (λ p. HaveRisen (faults_of counts k p) (faults_of counts k' p))) → AtEach Counted 0 k'.engines ks
-      → IfSome fault (λ f. IfDisk f (λ q. (q < length k.engines) × AtEach (λ p e kit. p ≡ q → OneRose (faults_at counts e) (faults kit)) 0 k.engines ks))
-  disk_over k k' ks None settings rose closed = tt
-  disk_over k k' ks (Some Usage) settings rose closed = tt
-  disk_over k k' ks (Some Read) settings rose closed = tt
-  disk_over k k' ks (Some (Write n)) settings rose closed = tt
-  disk_over k k' ks (Some Spent) settings rose closed = tt
-  disk_over k k' ks (Some (DiskFault p)) settings rose closed = disk_at k k' ks p settings rose closed
-  disk_over k k' ks (Some (Damaged p damage)) settings rose closed = tt
-  disk_over k k' ks (Some Memory) settings rose closed = tt
-  disk_over k k' ks (Some (Layout p found found_of asked_of)) settings rose closed = tt
+  pub disk_over : (es es' : List (WithJobs S D F W)) (ks : List K) (fault : Option RunFault) → settings_of es' ≡ settings_of es → IfSome fault (λ f. IfDisk f (λ p. HaveRisen (faults_of counts es p) (faults_of counts es' p))) → AtEach Counted 0 es' ks
+      → IfSome fault (λ f. IfDisk f (λ q. (q < length es) × AtEach (λ p e kit. p ≡ q → OneRose (faults_at counts e) (faults kit)) 0 es ks))
+  disk_over es es' ks None settings rose closed = tt
+  disk_over es es' ks (Some Usage) settings rose closed = tt
+  disk_over es es' ks (Some Read) settings rose closed = tt
+  disk_over es es' ks (Some (Write n)) settings rose closed = tt
+  disk_over es es' ks (Some Spent) settings rose closed = tt
+  disk_over es es' ks (Some (DiskFault p)) settings rose closed = disk_at es es' ks p settings rose closed
+  disk_over es es' ks (Some (Damaged p damage)) settings rose closed = tt
+  disk_over es es' ks (Some Memory) settings rose closed = tt
+  disk_over es es' ks (Some (Layout p found found_of asked_of)) settings rose closed = tt
 
 -- ---- what counts of a fault with which an engine ended
 
-module _ {S W D F P K : Type 0} (eyes : Eyes S D F W) (size : D → ℕ) (outcome : K → Result (Unit {0}) EngineFault) (left : K → List Disk) (faults : K → KitFaults)
-    (k k' : Partitions S P W D F) (ks : List K) (closed : AreClosed eyes size outcome left faults k'.engines ks) (settings : settings_of k' ≡ settings_of k) where
+module _ {S W D F K : Type 0} (eyes : Eyes S D F W) (size : D → ℕ) (outcome : K → Result (Unit {0}) EngineFault) (left : K → List Disk) (faults : K → KitFaults)
+    (es es' : List (WithJobs S D F W)) (ks : List K) (closed : AreClosed eyes size outcome left faults es' ks) (settings : settings_of es' ≡ settings_of es) where
   -- a fault of the disk: a watch of the kit at its place counted one more
   abbrev Rises : ℕ → Type 0
-  Rises q = (q < length k.engines) × AtEach (λ p e kit. p ≡ q → OneRose (faults_at eyes.counts e) (faults kit)) 0 k.engines ks
+  Rises q = (q < length es) × AtEach (λ p e kit. p ≡ q → OneRose (faults_at eyes.counts e) (faults kit)) 0 es ks
 
-  as_many : length k.engines ≡ length ks
-  as_many = sym (as_many_engines k k' settings) ∙ at_each-length (λ p e k. IsClosed eyes size e (outcome k) (left k) (faults k)) 0 k'.engines ks closed
+  as_many : length es ≡ length ks
+  as_many = sym (as_many_engines es es' settings) ∙ at_each-length (λ p e k. IsClosed eyes size e (outcome k) (left k) (faults k)) 0 es' ks closed
 
-  rises_at : ((p : ℕ) → HaveStayed (faults_of eyes.counts k p) (faults_of eyes.counts k' p)) → (q : ℕ) (ended : K) → slice_get ks q ≡ Some ended → IsErrOf (outcome ended) engine.Disk → Rises q
-  unfolding faults_of
+  rises_at : ((p : ℕ) → HaveStayed (faults_of eyes.counts es p) (faults_of eyes.counts es' p)) → (q : ℕ) (ended : K) → slice_get ks q ≡ Some ended → IsErrOf (outcome ended) engine.Disk → Rises q
   rises_at stayed q ended at disk = (
     omega (arith, as_many, below ks q ended at),
-    at_each-from (λ p e kit. p ≡ q → OneRose (faults_at eyes.counts e) (faults kit)) 0 k.engines ks as_many
+    at_each-from (λ p e kit. p ≡ q → OneRose (faults_at eyes.counts e) (faults kit)) 0 es ks as_many
         (λ p e kit is_e is_kit same.
-        let e' = ended_at eyes size outcome left faults k' ks closed q ended at in
+        let e' = ended_at eyes size outcome left faults es' ks closed q ended at in
         let place = shift p q same in
-        let here : slice_get k'.engines p ≡ Some e'.0 = subst (λ q. slice_get k'.engines q ≡ Some e'.0) (sym place) e'.1 in
+        let here : slice_get es' p ≡ Some e'.0 = subst (λ q. slice_get es' q ≡ Some e'.0) (sym place) e'.1 in
         let one : ended ≡ kit = let a = subst (λ q. slice_get ks q ≡ Some ended) (sym place) at in cc in
         subst (λ kit. OneRose (faults_at eyes.counts e) (faults kit)) one
-        (one_rose (faults_at eyes.counts e) (faults_at eyes.counts e'.0) (faults ended) (one_stayed eyes.counts faults k.engines k'.engines p e e'.0 (stayed p) is_e here) (e'.2.disk disk))),
+        (one_rose (faults_at eyes.counts e) (faults_at eyes.counts e'.0) (faults ended) (one_stayed eyes.counts faults es es' p e e'.0 (stayed p) is_e here) (e'.2.disk disk))),
   )
 
   disk_by : (q : ℕ) (why : EngineFault) → (why ≡ engine.Disk → Rises q) → IfDisk (fault_of_engine q why) Rises
@@ -280,7 +266,7 @@ module _ {S W D F P K : Type 0} (eyes : Eyes S D F W) (size : D → ℕ) (outcom
   disk_by q engine.Spent rises = tt
   disk_by q engine.Memory rises = tt
 
-  pub disk_ended : ((p : ℕ) → HaveStayed (faults_of eyes.counts k p) (faults_of eyes.counts k' p)) → IfSome (least_fault 0 (map outcome ks)) (λ f. IfDisk f Rises)
+  pub disk_ended : ((p : ℕ) → HaveStayed (faults_of eyes.counts es p) (faults_of eyes.counts es' p)) → IfSome (least_fault 0 (map outcome ks)) (λ f. IfDisk f Rises)
   disk_ended stayed = if_some (least_fault 0 (map outcome ks)) (λ fault is.
       let b = ended_by outcome 0 ks fault is in
       let same : 0 + b.place ≡ b.place = omega arith in
@@ -293,40 +279,39 @@ abbrev here_in : Partition → Option Settings → Partition
 here_in other None = other
 here_in other (Some s) = s.here
 
-module _ {S W D F P K : Type 0} (eyes : Eyes S D F W) (size : D → ℕ) (outcome : K → Result (Unit {0}) EngineFault) (left : K → List Disk) (faults : K → KitFaults) (k k' : Partitions S P W D F) (ks : List K) (closed : AreClosed eyes size outcome left faults k'.engines ks)
-    (same : settings_of k' ≡ settings_of k) (count : ℕ) (all : length k.engines ≡ count) (here : EachFrom (λ p (e : WithJobs S D F W). (settings e).here ≡ partition_at p count) 0 k.engines) where
+module _ {S W D F K : Type 0} (eyes : Eyes S D F W) (size : D → ℕ) (outcome : K → Result (Unit {0}) EngineFault) (left : K → List Disk) (faults : K → KitFaults) (es es' : List (WithJobs S D F W)) (ks : List K) (closed : AreClosed eyes size outcome left faults es' ks)
+    (same : settings_of es' ≡ settings_of es) (count : ℕ) (all : length es ≡ count) (here : EachFrom (λ p (e : WithJobs S D F W). (settings e).here ≡ partition_at p count) 0 es) where
   -- the partition of its place has it
   abbrev Met : ℕ → Damage → Type 0
   Met q damage = (q < count) × IsMetIn S W eyes.history eyes.content (partition_at q count) damage
 
   -- an engine that is left is of the partition of its place
-  left_at : (q : ℕ) (e' : WithJobs S D F W) → slice_get k'.engines q ≡ Some e' → (settings e').here ≡ partition_at q count
+  left_at : (q : ℕ) (e' : WithJobs S D F W) → slice_get es' q ≡ Some e' → (settings e').here ≡ partition_at q count
   left_at q e' is =
-      let e = there k.engines q (omega (arith, below k'.engines q e' is, as_many_engines k k' same)) in
+      let e = there es q (omega (arith, below es' q e' is, as_many_engines es es' same)) in
       let now : Some (settings e') ≡ Some (settings e.0) =
-      sym (ap (option_map settings) is) ∙ sym (slice_get-map settings k'.engines q) ∙ ap (λ (ss : List Settings). slice_get ss q) same ∙ slice_get-map settings k.engines q ∙ ap (option_map settings) e.1 in
-      ap (here_in (partition_at q count)) now ∙ each-at (λ p (e : WithJobs S D F W). (settings e).here ≡ partition_at p count) q k.engines e.0 here e.1
+      sym (ap (option_map settings) is) ∙ sym (slice_get-map settings es' q) ∙ ap (λ (ss : List Settings). slice_get ss q) same ∙ slice_get-map settings es q ∙ ap (option_map settings) e.1 in
+      ap (here_in (partition_at q count)) now ∙ each-at (λ p (e : WithJobs S D F W). (settings e).here ≡ partition_at p count) q es e.0 here e.1
 
-  met_at : (q : ℕ) (damage : Damage) → IsMetBehind eyes.history eyes.content k' q damage → Met q damage
-  unfolding IsMet
+  met_at : (q : ℕ) (damage : Damage) → IsMetBehind eyes.history eyes.content es' q damage → Met q damage
   met_at q damage met = (
-    omega (arith, met.0, as_many_engines k k' same, all),
+    omega (arith, met.0, as_many_engines es es' same, all),
     elim met.1 [
       | inl now ↦
-          let at = is_at-get (λ (e : WithJobs S D F W). IsPartDamage eyes.content eyes.history e.engine.part damage) q k'.engines now in
-          let end = (at_each-at (λ p e k. IsClosed eyes size e (outcome k) (left k) (faults k)) q k'.engines ks at.0 closed at.1).2 in
+          let at = is_at-get (λ (e : WithJobs S D F W). IsPartDamage eyes.content eyes.history e.engine.part damage) q es' now in
+          let end = (at_each-at (λ p e k. IsClosed eyes size e (outcome k) (left k) (faults k)) q es' ks at.0 closed at.1).2 in
           inl (record { part = at.0.engine.part; is_here = left_at q at.0 at.1; own = end.own; is = at.2 })
       | inr shown ↦
-          let at = is_at-get (λ (e : WithJobs S D F W). WasShown W eyes.content e.engine.part.number e.engine.part.count damage) q k'.engines shown in
+          let at = is_at-get (λ (e : WithJobs S D F W). WasShown W eyes.content e.engine.part.number e.engine.part.count damage) q es' shown in
           inr (subst (λ (here : Partition). WasShown W eyes.content here.number here.count damage) (left_at q at.0 at.1) at.2)
     ],
   )
 
-  pub damaged_over : (fault : Option RunFault) → IfSome fault (λ f. IfDamaged f (IsMetBehind eyes.history eyes.content k')) → IfSome fault (λ f. IfDamaged f Met)
-  damaged_over fault met = damaged_within (IsMetBehind eyes.history eyes.content k') Met fault met_at met
+  pub damaged_over : (fault : Option RunFault) → IfSome fault (λ f. IfDamaged f (IsMetBehind eyes.history eyes.content es')) → IfSome fault (λ f. IfDamaged f Met)
+  damaged_over fault met = damaged_within (IsMetBehind eyes.history eyes.content es') Met fault met_at met
 
   -- a job met it that was waited for
-  damaged_by : (q : ℕ) (why : EngineFault) (e : WithJobs S D F W) → q < count → slice_get k'.engines q ≡ Some e → IfEngineDamaged why (HasMetDamage eyes.content eyes.history e.engine.part) → IfDamaged (fault_of_engine q why) Met
+  damaged_by : (q : ℕ) (why : EngineFault) (e : WithJobs S D F W) → q < count → slice_get es' q ≡ Some e → IfEngineDamaged why (HasMetDamage eyes.content eyes.history e.engine.part) → IfDamaged (fault_of_engine q why) Met
   damaged_by q engine.Disk e within at met = tt
   damaged_by q (engine.Damaged damage) e within at met =
       let was : partition_at met.part.number met.part.count ≡ partition_at e.engine.part.number e.engine.part.count = ap (λ (s : PartState S D F W). partition_at s.number s.count) met.moved in
@@ -337,9 +322,9 @@ module _ {S W D F P K : Type 0} (eyes : Eyes S D F W) (size : D → ℕ) (outcom
   pub damaged_ended : IfSome (least_fault 0 (map outcome ks)) (λ f. IfDamaged f Met)
   damaged_ended = if_some (least_fault 0 (map outcome ks)) (λ fault is.
       let b = ended_by outcome 0 ks fault is in
-      let at = ended_at eyes size outcome left faults k' ks closed b.place b.ended b.at in
+      let at = ended_at eyes size outcome left faults es' ks closed b.place b.ended b.at in
       let place : 0 + b.place ≡ b.place = omega arith in
-      let many = at_each-length (λ p e k. IsClosed eyes size e (outcome k) (left k) (faults k)) 0 k'.engines ks closed in
-      subst (λ f. IfDamaged f Met) b.is (damaged_by (0 + b.place) b.why at.0 (omega (arith, many, below ks b.place b.ended b.at, as_many_engines k k' same, all))
-      (subst (λ q. slice_get k'.engines q ≡ Some at.0) (sym place) at.1)
+      let many = at_each-length (λ p e k. IsClosed eyes size e (outcome k) (left k) (faults k)) 0 es' ks closed in
+      subst (λ f. IfDamaged f Met) b.is (damaged_by (0 + b.place) b.why at.0 (omega (arith, many, below ks b.place b.ended b.at, as_many_engines es es' same, all))
+      (subst (λ q. slice_get es' q ≡ Some at.0) (sym place) at.1)
       (subst (λ r. IfErr r (λ fault. IfEngineDamaged fault (HasMetDamage eyes.content eyes.history at.0.engine.part))) b.by at.2.damaged)))

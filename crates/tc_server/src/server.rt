@@ -3,7 +3,7 @@
 ghost use Rattle.std.specs.Prelude.{◌≡◌, ℕ, ◌<◌, ◌≤◌, ◌⊎◌, List, [], true, false, length, map, All, Ok, Option, Some, None, option_to_list, vec_capacity, vec_len, is_some, IfOk, IfErr, IfSome, IsErrOf, OnOk};
 ghost use Rattle.tc_bytes.specs.Counts.{Rose};
 ghost use Rattle.tc_keeper.specs.Places.{AtEach, EachFrom, SomeFrom};
-ghost use Rattle.tc_keeper.specs.Standing.{partition_at};
+ghost use Rattle.tc_keeper.specs.Standing.{partition_at, KeepWorlds};
 ghost use Rattle.tc_keeper.specs.WithJobs.{settings};
 ghost use Rattle.tc_log.specs.Layout.{empty_size};
 ghost use Rattle.tc_open.specs.BeingOpened.{AreIn};
@@ -17,7 +17,7 @@ ghost use Rattle.tc_keeper.specs.Keeping.{faults_kept, settings_kept, AllRest, A
 ghost use Rattle.tc_server.specs.Kits.{answer_behind, fault_behind, IsBegun};
 ghost use Rattle.tc_server.specs.OverFiles.{partitions_asked, AskedOver, BeginsFor, ServedOver};
 ghost use Rattle.tc_keeper.specs.Partitions.{StandAt};
-ghost use Rattle.tc_keeper.specs.Calls.{faults_at, faults_of, settings_of, IsSpent, KeepsAt, MayAsk, Rests, HoldsAt};
+ghost use Rattle.tc_keeper.specs.Calls.{faults_at, faults_of, settings_of, IsSpent, MayAsk, Rests};
 ghost use Rattle.tc_server.specs.Progress.{AsksPromptly, Ends, Goes};
 ghost use Rattle.tc_keeper.specs.Sight.{IsFirst, Sight};
 ghost use Rattle.tc_server.specs.Stage.{IsReady};
@@ -34,7 +34,7 @@ use std::sync::{Arc, Wait};
 use std::thread::Threads;
 use tc_command::MAX_LINE;
 use tc_edge::{Sink, Source};
-use tc_keeper::{Engines, Keeper, Partitions, RunFault};
+use tc_keeper::{Engines, Keeper, RunFault};
 use tc_lines::{Line, Lines};
 use tc_running::Pace;
 use tc_store::{Kit, Shelf, Store};
@@ -209,13 +209,12 @@ where
     ensures damaged { IfSome result.1 (λ fault. IfDamaged fault (λ q damage. (q < (options_asked asked.now).partitions) × IsMetIn S S.Watch S.Device.history S.Frozen.content (partition_at q (options_asked asked.now).partitions) damage)) }
     ensures spent { result.1 ≡ Some RunFault.Spent → IsInputSpent (Some asked.now) (I.left source.old) (I.left source.new) ⊎ SomeFrom (λ p kit. IfTold (S.history kit.store) HasLastGeneration) 0 result.0.items }
 {
-    let partitions = Partitions::of(engines);
-    let (partitions, answer) = answer_over(rt, alloc, asked, source, sink, partitions, pace);
-    let closed = close_all(rt, alloc, partitions.into_engines(), kits);
+    let (engines, answer) = answer_over(rt, alloc, asked, source, sink, engines, pace);
+    let closed = close_all(rt, alloc, engines, kits);
     (closed.kits, fault_of(answer, closed.fault))
 }
 
-// Answers what is asked for over partitions that were opened. A scan that is out at the end is waited for: where it failed, and
+// Answers what is asked for over engines that were opened. A scan that is out at the end is waited for: where it failed, and
 // nothing else had, the run ends by its fault.
 fn answer_over<
     R: Threads + Wait + Sync,
@@ -229,32 +228,32 @@ fn answer_over<
     asked: &Invocation,
     source: &mut I,
     sink: &mut O,
-    partitions: Partitions<S, P>,
+    engines: Engines<S, P>,
     pace: Arc<P>,
-) -> (Partitions<S, P>, Result<(), RunFault>)
+) -> (Engines<S, P>, Result<(), RunFault>)
 where
     S::Device: 'static,
     S::Frozen: 'static,
     S::Watch: 'static,
-    requires works { MayAsk S.history S.Device.history S.Frozen.content partitions }
-    requires unwritten { AreUnwritten partitions.engines }
+    requires works { MayAsk S.history S.Device.history S.Frozen.content engines }
+    requires unwritten { AreUnwritten engines }
     requires some { 0 < (options_asked asked.now).window }
     requires limit { (options_asked asked.now).window ≤ 4096 }
     requires few { AreFewCommands asked.now }
-    ensures ran { (first : Sight) → IsFirst first → HoldsAt ⟦<S as Seen>⟧.eyes partitions first → RunsOver asked.now (I.left source.old) (I.left source.new)
-        (λ shown unread unread'. RanLeaving shown (HoldsAt ⟦<S as Seen>⟧.eyes) (KeepsAt ⟦<S as Seen>⟧.eyes) (IsSpent S.history S.Device.history S.Frozen.content) (fault_in result.1) first (options_asked asked.now).window unread unread' (O.taken sink.old) (O.taken sink.new) result.0) }
+    ensures ran { (first : Sight) → IsFirst first → StandAt ⟦<S as Seen>⟧.eyes engines first → RunsOver asked.now (I.left source.old) (I.left source.new)
+        (λ shown unread unread'. RanLeaving shown (StandAt ⟦<S as Seen>⟧.eyes) (λ es only. KeepWorlds ⟦<S as Seen>⟧.eyes only es) (IsSpent S.history S.Device.history S.Frozen.content) (fault_in result.1) first (options_asked asked.now).window unread unread' (O.taken sink.old) (O.taken sink.new) result.0) }
     ensures unread { IsRun (Some asked.now) ⊎ (source.new ≡ source.old) }
-    ensures prompt { (first : Sight) → IsFirst first → HoldsAt ⟦<S as Seen>⟧.eyes partitions first → AskedPromptly asked.now first (options_asked asked.now).window (O.taken sink.old)
+    ensures prompt { (first : Sight) → IsFirst first → StandAt ⟦<S as Seen>⟧.eyes engines first → AskedPromptly asked.now first (options_asked asked.now).window (O.taken sink.old)
         (I.moments source.old) (I.moments source.new) }
     ensures rests { OnOk result.1 (Rests (λ d. S.Device.size d) result.0) }
-    ensures readers { All (λ e. is_some e.engine.part.reader ≡ true) result.0.engines }
-    ensures settings { settings_of result.0 ≡ settings_of partitions }
-    ensures cause { HasRunCauses (I.faults source.old) (I.faults source.new) (O.faults sink.old) (O.faults sink.new) (faults_of (λ w. S.Watch.counts w) partitions) (faults_of (λ w. S.Watch.counts w) result.0) (IsTrueBehind S.history S.Device.history S.Frozen.content result.0) (fault_in result.1) }
+    ensures readers { All (λ e. is_some e.engine.part.reader ≡ true) result.0 }
+    ensures settings { settings_of result.0 ≡ settings_of engines }
+    ensures cause { HasRunCauses (I.faults source.old) (I.faults source.new) (O.faults sink.old) (O.faults sink.new) (faults_of (λ w. S.Watch.counts w) engines) (faults_of (λ w. S.Watch.counts w) result.0) (IsTrueBehind S.history S.Device.history S.Frozen.content result.0) (fault_in result.1) }
     ensures spent { fault_in result.1 ≡ Some RunFault.Spent → IsInputSpent (Some asked.now) (I.left source.old) (I.left source.new) ⊎ IsSpent S.history S.Device.history S.Frozen.content result.0 }
 {
-    match Keeper::open(rt, alloc, partitions, pace) {
+    match Keeper::open(rt, alloc, engines, pace) {
         Ok(keeper) => answer_with(rt, alloc, asked, source, sink, keeper),
-        Err(partitions) => (partitions, Err(RunFault::Memory)),
+        Err(engines) => (engines, Err(RunFault::Memory)),
     }
 }
 
@@ -272,7 +271,7 @@ fn answer_with<
     source: &mut I,
     sink: &mut O,
     keeper: Keeper<S, P>,
-) -> (Partitions<S, P>, Result<(), RunFault>)
+) -> (Engines<S, P>, Result<(), RunFault>)
 where
     S::Device: 'static,
     S::Frozen: 'static,
@@ -282,12 +281,12 @@ where
     requires limit { (options_asked asked.now).window ≤ 4096 }
     requires few { AreFewCommands asked.now }
     ensures ran { (first : Sight) → ServesAt ⟦<S as Seen>⟧.eyes keeper first → RunsOver asked.now (I.left source.old) (I.left source.new)
-        (λ shown unread unread'. RanLeaving shown (HoldsAt ⟦<S as Seen>⟧.eyes) (KeepsAt ⟦<S as Seen>⟧.eyes) (IsSpent S.history S.Device.history S.Frozen.content) (fault_in result.1) first (options_asked asked.now).window unread unread' (O.taken sink.old) (O.taken sink.new) result.0) }
+        (λ shown unread unread'. RanLeaving shown (StandAt ⟦<S as Seen>⟧.eyes) (λ es only. KeepWorlds ⟦<S as Seen>⟧.eyes only es) (IsSpent S.history S.Device.history S.Frozen.content) (fault_in result.1) first (options_asked asked.now).window unread unread' (O.taken sink.old) (O.taken sink.new) result.0) }
     ensures unread { IsRun (Some asked.now) ⊎ (source.new ≡ source.old) }
     ensures prompt { (first : Sight) → ServesAt ⟦<S as Seen>⟧.eyes keeper first → AskedPromptly asked.now first (options_asked asked.now).window (O.taken sink.old)
         (I.moments source.old) (I.moments source.new) }
     ensures rests { OnOk result.1 (Rests (λ d. S.Device.size d) result.0) }
-    ensures readers { All (λ e. is_some e.engine.part.reader ≡ true) result.0.engines }
+    ensures readers { All (λ e. is_some e.engine.part.reader ≡ true) result.0 }
     ensures settings { settings_of result.0 ≡ settings_kept keeper }
     ensures cause { HasRunCauses (I.faults source.old) (I.faults source.new) (O.faults sink.old) (O.faults sink.new) (faults_kept (λ w. S.Watch.counts w) keeper) (faults_of (λ w. S.Watch.counts w) result.0) (IsTrueBehind S.history S.Device.history S.Frozen.content result.0) (fault_in result.1) }
     ensures spent { fault_in result.1 ≡ Some RunFault.Spent → IsInputSpent (Some asked.now) (I.left source.old) (I.left source.new) ⊎ IsSpent S.history S.Device.history S.Frozen.content result.0 }
@@ -295,8 +294,8 @@ where
     let options = options_asked(asked);
     let mut session = Session::new(alloc, keeper, options.window as usize);
     let answer = answer_asked(rt, alloc, asked, &mut session, source, sink);
-    let (partitions, ended) = session.into_keeper().end(rt);
-    (partitions, with_fault(answer, ended))
+    let (engines, ended) = session.into_keeper().end(rt);
+    (engines, with_fault(answer, ended))
 }
 
 // How a run ended whose lines were answered so, and whose scan at the end had this fault, or none.

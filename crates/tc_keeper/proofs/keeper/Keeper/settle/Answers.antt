@@ -3,7 +3,7 @@ use Rattle.std.specs.Prelude.{None, Some}
 use Rattle.std.proofs.lemmas.Result.{err_from_is_err_and}
 use Rattle.tc_keeper.proofs.PlaceLaws.{at_each-length}
 use Rattle.tc_work.specs.Moving.{eyes}
-use Rattle.tc_keeper.specs.Calls.{faults_of, AllMayAnswer, HoldsAt, IsMet, IsSpent, KeepsAt, MayAsk, Rests}
+use Rattle.tc_keeper.specs.Calls.{MayAsk}
 use Rattle.tc_keeper.specs.Faults.{HasDiskCause}
 use Rattle.tc_keeper.specs.Keeping.{faults_kept, settings_kept, AllRest, FailsAt, HasMet, HasSpent, IsTrueHere, KeeperState, MayServe, ServesAt}
 use Rattle.tc_keeper.specs.Showing.{IsReadAsBefore}
@@ -15,154 +15,154 @@ use Rattle.tc_keeper.proofs.KeeperCounts.{caused_beside}
 use Rattle.tc_keeper.proofs.KeeperWorlds.{serves_settled}
 use Rattle.tc_keeper.proofs.keeper.Keeper.settle.Goals as goal
 
-pub settle-requires-clause-works : goal.settle-requires-clause-works
-unfolding MayServe ServesAt FailsAt AllRest faults_kept HasSpent MayAsk HoldsAt KeepsAt Rests faults_of IsSpent HasMet IsMet
-settle-requires-clause-works g c κs within =
-    (subst (λ (k : KeeperState _ _ _ _). AllMayAnswer g.S.Store.history g.S.Device.Device.history g.S.Frozen.Frozen.content k.engines) (sym c.self.view_is) c.requires.works)
+pub settle_all-requires-clause-works : goal.settle_all-requires-clause-works
+unfolding MayServe ServesAt FailsAt AllRest faults_kept HasSpent HasMet
+settle_all-requires-clause-works g c κs within =
+    (subst (λ (k : KeeperState _ _ _ _). MayAsk g.S.Store.history g.S.Device.Device.history g.S.Frozen.Frozen.content k.engines) (sym c.self.view_is) c.requires.works)
 
 pub place_all-requires-clause-as_many : goal.place_all-requires-clause-as_many
-unfolding MayServe ServesAt FailsAt AllRest faults_kept HasSpent MayAsk HoldsAt KeepsAt Rests faults_of IsSpent HasMet IsMet
+unfolding MayServe ServesAt FailsAt AllRest faults_kept HasSpent HasMet
 place_all-requires-clause-as_many g c κs within =
-    shown_many (record { engines = c.self.inside.partitions.engines; shown = c.self.inside.shown.items; scan = c.self.inside.scan }) c.settle.new.self.engines c.settle.ensures.readers c.self.invariant
+    shown_many (record { engines = c.self.inside.engines; shown = c.self.inside.shown.items; scan = c.self.inside.scan }) c.settle_all.new.engines c.settle_all.ensures.readers c.self.invariant
 
-pub returns-in_err-settle-clause-failed : goal.returns-in_err-settle-clause-failed
-unfolding MayServe ServesAt FailsAt AllRest faults_kept HasSpent MayAsk HoldsAt KeepsAt Rests faults_of IsSpent HasMet IsMet
-returns-in_err-settle-clause-failed g c =
+pub returns-in_err-settle_all-clause-failed : goal.returns-in_err-settle_all-clause-failed
+unfolding MayServe ServesAt FailsAt AllRest faults_kept HasSpent HasMet
+returns-in_err-settle_all-clause-failed g c =
     let p = err_from_is_err_and c.from_residual.result c.from_residual.ensures.1 in
-    λ only w serves. rw p.1 (c.in_err-settle.ensures.failed only w
+    λ only w serves. rw p.1 (c.in_err-settle_all.ensures.failed only w
     (subst (λ (k : KeeperState _ _ _ _). ServesAt (eyes g.S.Store.history g.S.Device.Device.history g.S.Frozen.Frozen.content g.S.Device.Device.name
     g.S.Frozen.Frozen.size g.S.Watch.Watch.counts) k (sees only w)) (sym c.self.view_is) serves).0)
 
-pub returns-in_err-settle-clause-undamaged : goal.returns-in_err-settle-clause-undamaged
-unfolding MayServe ServesAt FailsAt AllRest faults_kept HasSpent MayAsk HoldsAt KeepsAt Rests faults_of IsSpent HasMet IsMet
-returns-in_err-settle-clause-undamaged g c =
+pub returns-in_err-settle_all-clause-undamaged : goal.returns-in_err-settle_all-clause-undamaged
+unfolding MayServe ServesAt FailsAt AllRest faults_kept HasSpent HasMet
+returns-in_err-settle_all-clause-undamaged g c =
     let p = err_from_is_err_and c.from_residual.result c.from_residual.ensures.1 in
-    λ only w serves. rw (p.1, p.2) (c.in_err-settle.ensures.undamaged only w
+    λ only w serves. rw (p.1, p.2) (c.in_err-settle_all.ensures.undamaged only w
     (subst (λ (k : KeeperState _ _ _ _). ServesAt (eyes g.S.Store.history g.S.Device.Device.history g.S.Frozen.Frozen.content g.S.Device.Device.name
     g.S.Frozen.Frozen.size g.S.Watch.Watch.counts) k (sees only w)) (sym c.self.view_is) serves).0)
 
-pub returns-in_err-settle-clause-settings : goal.returns-in_err-settle-clause-settings
-unfolding MayServe ServesAt FailsAt AllRest faults_kept HasSpent MayAsk HoldsAt KeepsAt Rests faults_of IsSpent HasMet IsMet
-returns-in_err-settle-clause-settings g c =
-    c.settle.ensures.settings ∙ ap (λ (k : KeeperState _ _ _ _). settings_kept k) c.self.view_is
+pub returns-in_err-settle_all-clause-settings : goal.returns-in_err-settle_all-clause-settings
+unfolding MayServe ServesAt FailsAt AllRest faults_kept HasSpent HasMet
+returns-in_err-settle_all-clause-settings g c =
+    c.settle_all.ensures.settings ∙ ap (λ (k : KeeperState _ _ _ _). settings_kept k) c.self.view_is
 
-pub returns-in_err-settle-clause-cause : goal.returns-in_err-settle-clause-cause
-unfolding MayServe ServesAt FailsAt AllRest faults_kept HasSpent MayAsk HoldsAt KeepsAt Rests faults_of IsSpent HasMet IsMet
-returns-in_err-settle-clause-cause g c =
+pub returns-in_err-settle_all-clause-cause : goal.returns-in_err-settle_all-clause-cause
+unfolding MayServe ServesAt FailsAt AllRest faults_kept HasSpent HasMet
+returns-in_err-settle_all-clause-cause g c =
     let p = err_from_is_err_and c.from_residual.result c.from_residual.ensures.1 in
     rw (p.1, p.2) (subst (λ (k : KeeperState _ _ _ _). HasDiskCause (faults_kept g.S.Watch.Watch.counts k)
-    (faults_kept g.S.Watch.Watch.counts (record { engines = c.settle.new.self.engines; shown = c.self.inside.shown.items; scan = c.self.inside.scan }))
+    (faults_kept g.S.Watch.Watch.counts (record { engines = c.settle_all.new.engines; shown = c.self.inside.shown.items; scan = c.self.inside.scan }))
     (IsTrueHere g.S.Store.history g.S.Device.Device.history g.S.Frozen.Frozen.content
-    (record { engines = c.settle.new.self.engines; shown = c.self.inside.shown.items; scan = c.self.inside.scan })) (Some c.in_err-settle.field-0.0))
+    (record { engines = c.settle_all.new.engines; shown = c.self.inside.shown.items; scan = c.self.inside.scan })) (Some c.in_err-settle_all.field-0.0))
     c.self.view_is (caused_beside g.S.Watch.Watch.counts (record
-    { engines = c.self.inside.partitions.engines; shown = c.self.inside.shown.items; scan = c.self.inside.scan })
-    (record { engines = c.settle.new.self.engines; shown = c.self.inside.shown.items; scan = c.self.inside.scan }) _ _ (Some c.in_err-settle.field-0.0) refl
-    c.self.invariant.readers c.settle.ensures.readers (λ spent. spent) (λ p damage met. inl met) c.in_err-settle.ensures.cause))
+    { engines = c.self.inside.engines; shown = c.self.inside.shown.items; scan = c.self.inside.scan })
+    (record { engines = c.settle_all.new.engines; shown = c.self.inside.shown.items; scan = c.self.inside.scan }) _ _ (Some c.in_err-settle_all.field-0.0) refl
+    c.self.invariant.readers c.settle_all.ensures.readers (λ spent. spent) (λ p damage met. inl met) c.in_err-settle_all.ensures.cause))
 
 pub returns-in_err-place_all-clause-failed : goal.returns-in_err-place_all-clause-failed
-unfolding MayServe ServesAt FailsAt AllRest faults_kept HasSpent MayAsk HoldsAt KeepsAt Rests faults_of IsSpent HasMet IsMet
+unfolding MayServe ServesAt FailsAt AllRest faults_kept HasSpent HasMet
 returns-in_err-place_all-clause-failed g c =
     let p = err_from_is_err_and c.from_residual-in_err-place_all.result c.from_residual-in_err-place_all.ensures.1 in
     λ only w serves. rw p.1 (held_keeps (eyes g.S.Store.history g.S.Device.Device.history g.S.Frozen.Frozen.content g.S.Device.Device.name g.S.Frozen.Frozen.size
-    g.S.Watch.Watch.counts) only c.settle.new.self.engines w (c.in_ok-settle.ensures.held (sees only w)
+    g.S.Watch.Watch.counts) only c.settle_all.new.engines w (c.in_ok-settle_all.ensures.held (sees only w)
     (subst (λ (k : KeeperState _ _ _ _). ServesAt (eyes g.S.Store.history g.S.Device.Device.history g.S.Frozen.Frozen.content g.S.Device.Device.name
     g.S.Frozen.Frozen.size g.S.Watch.Watch.counts) k (sees only w)) (sym c.self.view_is) serves).0))
 
 pub returns-in_err-place_all-clause-undamaged : goal.returns-in_err-place_all-clause-undamaged
-unfolding MayServe ServesAt FailsAt AllRest faults_kept HasSpent MayAsk HoldsAt KeepsAt Rests faults_of IsSpent HasMet IsMet
+unfolding MayServe ServesAt FailsAt AllRest faults_kept HasSpent HasMet
 returns-in_err-place_all-clause-undamaged g c =
     let p = err_from_is_err_and c.from_residual-in_err-place_all.result c.from_residual-in_err-place_all.ensures.1 in
     λ only w serves. rw (p.1, p.2) tt
 
 pub returns-in_err-place_all-clause-kinds : goal.returns-in_err-place_all-clause-kinds
-unfolding MayServe ServesAt FailsAt AllRest faults_kept HasSpent MayAsk HoldsAt KeepsAt Rests faults_of IsSpent HasMet IsMet
+unfolding MayServe ServesAt FailsAt AllRest faults_kept HasSpent HasMet
 returns-in_err-place_all-clause-kinds g c =
     let p = err_from_is_err_and c.from_residual-in_err-place_all.result c.from_residual-in_err-place_all.ensures.1 in
     rw (p.1, p.2) tt
 
 pub returns-in_err-place_all-clause-settings : goal.returns-in_err-place_all-clause-settings
-unfolding MayServe ServesAt FailsAt AllRest faults_kept HasSpent MayAsk HoldsAt KeepsAt Rests faults_of IsSpent HasMet IsMet
+unfolding MayServe ServesAt FailsAt AllRest faults_kept HasSpent HasMet
 returns-in_err-place_all-clause-settings g c =
-    c.settle.ensures.settings ∙ ap (λ (k : KeeperState _ _ _ _). settings_kept k) c.self.view_is
+    c.settle_all.ensures.settings ∙ ap (λ (k : KeeperState _ _ _ _). settings_kept k) c.self.view_is
 
 pub returns-in_err-place_all-clause-cause : goal.returns-in_err-place_all-clause-cause
-unfolding MayServe ServesAt FailsAt AllRest faults_kept HasSpent MayAsk HoldsAt KeepsAt Rests faults_of IsSpent HasMet IsMet
+unfolding MayServe ServesAt FailsAt AllRest faults_kept HasSpent HasMet
 returns-in_err-place_all-clause-cause g c =
     let p = err_from_is_err_and c.from_residual-in_err-place_all.result c.from_residual-in_err-place_all.ensures.1 in
     rw (p.1, p.2) (subst (λ (k : KeeperState _ _ _ _). HasDiskCause (faults_kept g.S.Watch.Watch.counts k)
-    (faults_kept g.S.Watch.Watch.counts (record { engines = c.settle.new.self.engines; shown = c.place_all.new.shown.items; scan = c.self.inside.scan }))
+    (faults_kept g.S.Watch.Watch.counts (record { engines = c.settle_all.new.engines; shown = c.place_all.new.shown.items; scan = c.self.inside.scan }))
     (IsTrueHere g.S.Store.history g.S.Device.Device.history g.S.Frozen.Frozen.content
-    (record { engines = c.settle.new.self.engines; shown = c.place_all.new.shown.items; scan = c.self.inside.scan })) _) c.self.view_is
+    (record { engines = c.settle_all.new.engines; shown = c.place_all.new.shown.items; scan = c.self.inside.scan })) _) c.self.view_is
     (call_without_memory (faults_kept g.S.Watch.Watch.counts (record
-    { engines = c.self.inside.partitions.engines; shown = c.self.inside.shown.items; scan = c.self.inside.scan }))
-    (faults_kept g.S.Watch.Watch.counts (record { engines = c.settle.new.self.engines; shown = c.place_all.new.shown.items; scan = c.self.inside.scan })) _
+    { engines = c.self.inside.engines; shown = c.self.inside.shown.items; scan = c.self.inside.scan }))
+    (faults_kept g.S.Watch.Watch.counts (record { engines = c.settle_all.new.engines; shown = c.place_all.new.shown.items; scan = c.self.inside.scan })) _
     (IsTrueHere g.S.Store.history g.S.Device.Device.history g.S.Frozen.Frozen.content
-    (record { engines = c.settle.new.self.engines; shown = c.place_all.new.shown.items; scan = c.self.inside.scan }))
-    (caused_beside g.S.Watch.Watch.counts (record { engines = c.self.inside.partitions.engines; shown = c.self.inside.shown.items; scan = c.self.inside.scan })
-    (record { engines = c.settle.new.self.engines; shown = c.place_all.new.shown.items; scan = c.self.inside.scan }) _
+    (record { engines = c.settle_all.new.engines; shown = c.place_all.new.shown.items; scan = c.self.inside.scan }))
+    (caused_beside g.S.Watch.Watch.counts (record { engines = c.self.inside.engines; shown = c.self.inside.shown.items; scan = c.self.inside.scan })
+    (record { engines = c.settle_all.new.engines; shown = c.place_all.new.shown.items; scan = c.self.inside.scan }) _
     (IsTrueHere g.S.Store.history g.S.Device.Device.history g.S.Frozen.Frozen.content
-    (record { engines = c.settle.new.self.engines; shown = c.place_all.new.shown.items; scan = c.self.inside.scan })) None refl c.self.invariant.readers
-    c.settle.ensures.readers (λ spent. spent) (λ p damage met. inl met) c.in_ok-settle.ensures.cause)))
+    (record { engines = c.settle_all.new.engines; shown = c.place_all.new.shown.items; scan = c.self.inside.scan })) None refl c.self.invariant.readers
+    c.settle_all.ensures.readers (λ spent. spent) (λ p damage met. inl met) c.in_ok-settle_all.ensures.cause)))
 
 pub returns-clause-held : goal.returns-clause-held
-unfolding MayServe ServesAt FailsAt AllRest faults_kept HasSpent MayAsk HoldsAt KeepsAt Rests faults_of IsSpent HasMet IsMet
+unfolding MayServe ServesAt FailsAt AllRest faults_kept HasSpent HasMet
 returns-clause-held g c =
     λ known serves. serves_settled (eyes g.S.Store.history g.S.Device.Device.history g.S.Frozen.Frozen.content g.S.Device.Device.name g.S.Frozen.Frozen.size
-    g.S.Watch.Watch.counts) (record { engines = c.self.inside.partitions.engines; shown = c.self.inside.shown.items; scan = c.self.inside.scan })
-    (record { engines = c.settle.new.self.engines; shown = c.place_all.new.shown.items; scan = c.self.inside.scan }) known c.parts_are_shown.ensures.placed refl
+    g.S.Watch.Watch.counts) (record { engines = c.self.inside.engines; shown = c.self.inside.shown.items; scan = c.self.inside.scan })
+    (record { engines = c.settle_all.new.engines; shown = c.place_all.new.shown.items; scan = c.self.inside.scan }) known c.parts_are_shown.ensures.placed refl
     (sym (at_each-length (λ p old new. IsReadAsBefore old new) 0 c.self.inside.shown.items c.place_all.new.shown.items c.place_all.ensures.books)
-    ∙ shown_many (record { engines = c.self.inside.partitions.engines; shown = c.self.inside.shown.items; scan = c.self.inside.scan }) c.settle.new.self.engines
-    c.settle.ensures.readers c.self.invariant) (c.in_ok-settle.ensures.held known
+    ∙ shown_many (record { engines = c.self.inside.engines; shown = c.self.inside.shown.items; scan = c.self.inside.scan }) c.settle_all.new.engines
+    c.settle_all.ensures.readers c.self.invariant) (c.in_ok-settle_all.ensures.held known
     (subst (λ (k : KeeperState _ _ _ _). ServesAt (eyes g.S.Store.history g.S.Device.Device.history g.S.Frozen.Frozen.content g.S.Device.Device.name
     g.S.Frozen.Frozen.size g.S.Watch.Watch.counts) k (known)) (sym c.self.view_is) serves).0) c.in_ok-place_all.ensures.placed
     (subst (λ (k : KeeperState _ _ _ _). ServesAt (eyes g.S.Store.history g.S.Device.Device.history g.S.Frozen.Frozen.content g.S.Device.Device.name
     g.S.Frozen.Frozen.size g.S.Watch.Watch.counts) k known) (sym c.self.view_is) serves)
 
 pub invariant_of-self : goal.invariant_of-self
-unfolding MayServe ServesAt FailsAt AllRest faults_kept HasSpent MayAsk HoldsAt KeepsAt Rests faults_of IsSpent HasMet IsMet
+unfolding MayServe ServesAt FailsAt AllRest faults_kept HasSpent HasMet
 invariant_of-self g c =
-    manned_beside (record { engines = c.self.inside.partitions.engines; shown = c.self.inside.shown.items; scan = c.self.inside.scan })
-    (record { engines = c.settle.new.self.engines; shown = c.self.inside.shown.items; scan = c.self.inside.scan }) refl c.settle.ensures.readers c.settle.ensures.settings
+    manned_beside (record { engines = c.self.inside.engines; shown = c.self.inside.shown.items; scan = c.self.inside.scan })
+    (record { engines = c.settle_all.new.engines; shown = c.self.inside.shown.items; scan = c.self.inside.scan }) refl c.settle_all.ensures.readers c.settle_all.ensures.settings
     (read_as_before c.self.inside.shown.items) (λ own. own) c.self.invariant
 
 pub invariant_of-self-in_err-place_all : goal.invariant_of-self-in_err-place_all
-unfolding MayServe ServesAt FailsAt AllRest faults_kept HasSpent MayAsk HoldsAt KeepsAt Rests faults_of IsSpent HasMet IsMet
+unfolding MayServe ServesAt FailsAt AllRest faults_kept HasSpent HasMet
 invariant_of-self-in_err-place_all g c =
-    manned_beside (record { engines = c.self.inside.partitions.engines; shown = c.self.inside.shown.items; scan = c.self.inside.scan })
-    (record { engines = c.settle.new.self.engines; shown = c.place_all.new.shown.items; scan = c.self.inside.scan }) refl c.settle.ensures.readers c.settle.ensures.settings
+    manned_beside (record { engines = c.self.inside.engines; shown = c.self.inside.shown.items; scan = c.self.inside.scan })
+    (record { engines = c.settle_all.new.engines; shown = c.place_all.new.shown.items; scan = c.self.inside.scan }) refl c.settle_all.ensures.readers c.settle_all.ensures.settings
     c.place_all.ensures.books c.place_all.ensures.own c.self.invariant
 
 pub invariant_of-self-2 : goal.invariant_of-self-2
-unfolding MayServe ServesAt FailsAt AllRest faults_kept HasSpent MayAsk HoldsAt KeepsAt Rests faults_of IsSpent HasMet IsMet
+unfolding MayServe ServesAt FailsAt AllRest faults_kept HasSpent HasMet
 invariant_of-self-2 g c =
-    manned_beside (record { engines = c.self.inside.partitions.engines; shown = c.self.inside.shown.items; scan = c.self.inside.scan })
-    (record { engines = c.settle.new.self.engines; shown = c.place_all.new.shown.items; scan = c.self.inside.scan }) refl c.settle.ensures.readers c.settle.ensures.settings
+    manned_beside (record { engines = c.self.inside.engines; shown = c.self.inside.shown.items; scan = c.self.inside.scan })
+    (record { engines = c.settle_all.new.engines; shown = c.place_all.new.shown.items; scan = c.self.inside.scan }) refl c.settle_all.ensures.readers c.settle_all.ensures.settings
     c.place_all.ensures.books c.place_all.ensures.own c.self.invariant
 
 pub returns-clause-works : goal.returns-clause-works
-unfolding MayServe ServesAt FailsAt AllRest faults_kept HasSpent MayAsk HoldsAt KeepsAt Rests faults_of IsSpent HasMet IsMet
+unfolding MayServe ServesAt FailsAt AllRest faults_kept HasSpent HasMet
 returns-clause-works g c =
-    c.in_ok-settle.ensures.works
+    c.in_ok-settle_all.ensures.works
 
 pub returns-clause-rests : goal.returns-clause-rests
-unfolding MayServe ServesAt FailsAt AllRest faults_kept HasSpent MayAsk HoldsAt KeepsAt Rests faults_of IsSpent HasMet IsMet
+unfolding MayServe ServesAt FailsAt AllRest faults_kept HasSpent HasMet
 returns-clause-rests g c =
-    c.in_ok-settle.ensures.rests
+    c.in_ok-settle_all.ensures.rests
 
 pub returns-clause-settings : goal.returns-clause-settings
-unfolding MayServe ServesAt FailsAt AllRest faults_kept HasSpent MayAsk HoldsAt KeepsAt Rests faults_of IsSpent HasMet IsMet
+unfolding MayServe ServesAt FailsAt AllRest faults_kept HasSpent HasMet
 returns-clause-settings g c =
-    c.settle.ensures.settings ∙ ap (λ (k : KeeperState _ _ _ _). settings_kept k) c.self.view_is
+    c.settle_all.ensures.settings ∙ ap (λ (k : KeeperState _ _ _ _). settings_kept k) c.self.view_is
 
 pub returns-clause-cause : goal.returns-clause-cause
-unfolding MayServe ServesAt FailsAt AllRest faults_kept HasSpent MayAsk HoldsAt KeepsAt Rests faults_of IsSpent HasMet IsMet
+unfolding MayServe ServesAt FailsAt AllRest faults_kept HasSpent HasMet
 returns-clause-cause g c =
     (subst (λ (k : KeeperState _ _ _ _). HasDiskCause (faults_kept g.S.Watch.Watch.counts k)
-    (faults_kept g.S.Watch.Watch.counts (record { engines = c.settle.new.self.engines; shown = c.place_all.new.shown.items; scan = c.self.inside.scan }))
+    (faults_kept g.S.Watch.Watch.counts (record { engines = c.settle_all.new.engines; shown = c.place_all.new.shown.items; scan = c.self.inside.scan }))
     (IsTrueHere g.S.Store.history g.S.Device.Device.history g.S.Frozen.Frozen.content
-    (record { engines = c.settle.new.self.engines; shown = c.place_all.new.shown.items; scan = c.self.inside.scan })) None) c.self.view_is
-    (caused_beside g.S.Watch.Watch.counts (record { engines = c.self.inside.partitions.engines; shown = c.self.inside.shown.items; scan = c.self.inside.scan })
-    (record { engines = c.settle.new.self.engines; shown = c.place_all.new.shown.items; scan = c.self.inside.scan }) _
+    (record { engines = c.settle_all.new.engines; shown = c.place_all.new.shown.items; scan = c.self.inside.scan })) None) c.self.view_is
+    (caused_beside g.S.Watch.Watch.counts (record { engines = c.self.inside.engines; shown = c.self.inside.shown.items; scan = c.self.inside.scan })
+    (record { engines = c.settle_all.new.engines; shown = c.place_all.new.shown.items; scan = c.self.inside.scan }) _
     (IsTrueHere g.S.Store.history g.S.Device.Device.history g.S.Frozen.Frozen.content
-    (record { engines = c.settle.new.self.engines; shown = c.place_all.new.shown.items; scan = c.self.inside.scan })) None refl c.self.invariant.readers
-    c.settle.ensures.readers (λ spent. spent) (λ p damage met. inl met) c.in_ok-settle.ensures.cause))
+    (record { engines = c.settle_all.new.engines; shown = c.place_all.new.shown.items; scan = c.self.inside.scan })) None refl c.self.invariant.readers
+    c.settle_all.ensures.readers (λ spent. spent) (λ p damage met. inl met) c.in_ok-settle_all.ensures.cause))

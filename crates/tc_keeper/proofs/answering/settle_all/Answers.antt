@@ -4,25 +4,22 @@ use Rattle.tc_keeper.specs.Moving.{Settles, FailsSettling}
 use Rattle.tc_work.specs.declared.fault.EngineFault.TheVariants as engine
 use Rattle.std.specs.Prelude.{Err}
 use Rattle.tc_work.specs.Moving.{eyes}
-use Rattle.tc_keeper.specs.Calls.{faults_at, faults_of, HoldsAt, IsMet, IsSpent, KeepsAt, MayAsk, Rests}
+use Rattle.tc_keeper.specs.Calls.{faults_at}
 use Rattle.tc_keeper.specs.Faults.{IsNoDamage}
 use Rattle.tc_keeper.proofs.EnginesAsked.{asked_behind, moved_readers, moved_settings, settled_all, sound_all, stopped_readers, stopped_settings}
 use Rattle.tc_keeper.proofs.EngineCauses.{call_caused, caused_none, moved_stayed}
 use Rattle.tc_keeper.proofs.EngineWorlds.{call_undamaged, on_err, on_ok, stand_still}
-use Rattle.tc_keeper.proofs.partitions.Partitions.settle.Goals as goal
+use Rattle.tc_keeper.proofs.answering.settle_all.Goals as goal
 
 pub settle-requires-clause-few : goal.settle-requires-clause-few
-unfolding MayAsk
 settle-requires-clause-few g c κs within = c.requires.works.1
 
 pub settle-requires-clause-sound : goal.settle-requires-clause-sound
-unfolding MayAsk
-settle-requires-clause-sound g c κs within = sound_all (eyes g.S.Store.history g.S.Device.Device.history g.S.Frozen.Frozen.content g.S.Device.Device.name g.S.Frozen.Frozen.size g.S.Watch.Watch.counts) c.args.self.now.engines c.requires.works.2
+settle-requires-clause-sound g c κs within = sound_all (eyes g.S.Store.history g.S.Device.Device.history g.S.Frozen.Frozen.content g.S.Device.Device.name g.S.Frozen.Frozen.size g.S.Watch.Watch.counts) c.args.engines.now c.requires.works.2
 
 pub returns-in-Ok-clause-works : goal.returns-in-Ok-clause-works
-unfolding MayAsk
 returns-in-Ok-clause-works g c =
-    let es = c.args.self.now.engines in
+    let es = c.args.engines.now in
     let same = at_each-length (λ p old new. Settles _ _ old new) 0 es c.settle.new.self c.in-Ok.ensures.settled in (
       subst (λ n. 0 < n) same c.requires.works.0,
       subst (λ n. n ≤ 16) same c.requires.works.1,
@@ -33,37 +30,32 @@ returns-in-Ok-clause-works g c =
     )
 
 pub returns-in-Ok-clause-rests : goal.returns-in-Ok-clause-rests
-unfolding Rests
-returns-in-Ok-clause-rests g c = settled_all (eyes g.S.Store.history g.S.Device.Device.history g.S.Frozen.Frozen.content g.S.Device.Device.name g.S.Frozen.Frozen.size g.S.Watch.Watch.counts) g.S.Device.Device.size 0 c.args.self.now.engines c.settle.new.self c.in-Ok.ensures.settled
+returns-in-Ok-clause-rests g c = settled_all (eyes g.S.Store.history g.S.Device.Device.history g.S.Frozen.Frozen.content g.S.Device.Device.name g.S.Frozen.Frozen.size g.S.Watch.Watch.counts) g.S.Device.Device.size 0 c.args.engines.now c.settle.new.self c.in-Ok.ensures.settled
 
 pub returns-in-Ok-clause-held : goal.returns-in-Ok-clause-held
-unfolding HoldsAt
 returns-in-Ok-clause-held g c = λ known stands. stand_still (eyes g.S.Store.history g.S.Device.Device.history g.S.Frozen.Frozen.content g.S.Device.Device.name
-    g.S.Frozen.Frozen.size g.S.Watch.Watch.counts) c.args.self.now.engines c.settle.new.self known stands
+    g.S.Frozen.Frozen.size g.S.Watch.Watch.counts) c.args.engines.now c.settle.new.self known stands
     (λ only w h. on_ok c.settle.result tt c.in-Ok.is (c.settle.ensures.held only w h))
 
 pub returns-in-Ok-clause-settings : goal.returns-in-Ok-clause-settings
 returns-in-Ok-clause-settings g c = moved_settings (eyes g.S.Store.history g.S.Device.Device.history g.S.Frozen.Frozen.content g.S.Device.Device.name
     g.S.Frozen.Frozen.size g.S.Watch.Watch.counts) (λ old new. Settles
     (eyes g.S.Store.history g.S.Device.Device.history g.S.Frozen.Frozen.content g.S.Device.Device.name g.S.Frozen.Frozen.size g.S.Watch.Watch.counts)
-    g.S.Device.Device.size old new) c.args.self.now.engines c.settle.new.self (λ old new d. d.moved) c.in-Ok.ensures.settled
+    g.S.Device.Device.size old new) c.args.engines.now c.settle.new.self (λ old new d. d.moved) c.in-Ok.ensures.settled
 
 pub returns-in-Ok-clause-cause : goal.returns-in-Ok-clause-cause
-unfolding faults_of IsSpent IsMet
-returns-in-Ok-clause-cause g c = caused_none (faults_at g.S.Watch.Watch.counts) _ c.args.self.now.engines c.settle.new.self
+returns-in-Ok-clause-cause g c = caused_none (faults_at g.S.Watch.Watch.counts) _ c.args.engines.now c.settle.new.self
     (moved_stayed (eyes g.S.Store.history g.S.Device.Device.history g.S.Frozen.Frozen.content g.S.Device.Device.name g.S.Frozen.Frozen.size g.S.Watch.Watch.counts)
     (λ old new. Settles (eyes g.S.Store.history g.S.Device.Device.history g.S.Frozen.Frozen.content g.S.Device.Device.name g.S.Frozen.Frozen.size
-    g.S.Watch.Watch.counts) g.S.Device.Device.size old new) c.args.self.now.engines c.settle.new.self (λ old new d. d.moved) c.in-Ok.ensures.settled)
+    g.S.Watch.Watch.counts) g.S.Device.Device.size old new) c.args.engines.now c.settle.new.self (λ old new d. d.moved) c.in-Ok.ensures.settled)
 
 pub returns-in-Err-clause-failed : goal.returns-in-Err-clause-failed
-unfolding HoldsAt KeepsAt
 returns-in-Err-clause-failed g c = λ only w h. on_err c.settle.result c.in-Err.fault c.in-Err.is (c.settle.ensures.kept only w h)
 
 pub returns-in-Err-clause-undamaged : goal.returns-in-Err-clause-undamaged
-unfolding HoldsAt
 returns-in-Err-clause-undamaged g c = λ only w h. subst (IsNoDamage only) (sym c.of_engines.ensures)
     (call_undamaged (eyes g.S.Store.history g.S.Device.Device.history g.S.Frozen.Frozen.content g.S.Device.Device.name g.S.Frozen.Frozen.size g.S.Watch.Watch.counts)
-    c.args.self.now.engines c.settle.new.self only w h (λ old new. Settles
+    c.args.engines.now c.settle.new.self only w h (λ old new. Settles
     (eyes g.S.Store.history g.S.Device.Device.history g.S.Frozen.Frozen.content g.S.Device.Device.name g.S.Frozen.Frozen.size g.S.Watch.Watch.counts)
     g.S.Device.Device.size old new) (λ why old new. FailsSettling
     (eyes g.S.Store.history g.S.Device.Device.history g.S.Frozen.Frozen.content g.S.Device.Device.name g.S.Frozen.Frozen.size g.S.Watch.Watch.counts) why old new)
@@ -75,17 +67,16 @@ returns-in-Err-clause-settings g c =
     (λ old new. Settles (eyes g.S.Store.history g.S.Device.Device.history g.S.Frozen.Frozen.content g.S.Device.Device.name g.S.Frozen.Frozen.size
     g.S.Watch.Watch.counts) g.S.Device.Device.size old new) (λ why old new. FailsSettling
     (eyes g.S.Store.history g.S.Device.Device.history g.S.Frozen.Frozen.content g.S.Device.Device.name g.S.Frozen.Frozen.size g.S.Watch.Watch.counts) why old new)
-    (λ why. why ≡ engine.Disk) c.in-Err.fault c.args.self.now.engines c.settle.new.self (λ old new d. d.moved) (λ why old new f. f.moved)
+    (λ why. why ≡ engine.Disk) c.in-Err.fault c.args.engines.now c.settle.new.self (λ old new d. d.moved) (λ why old new f. f.moved)
     (λ same. c.settle.ensures.of_engine (c.in-Err.is ∙ ap Err same)) c.in-Err.ensures.stopped
 
 pub returns-in-Err-clause-cause : goal.returns-in-Err-clause-cause
-unfolding MayAsk faults_of IsSpent IsMet
 returns-in-Err-clause-cause g c =
     rw c.of_engines.ensures (call_caused (eyes g.S.Store.history g.S.Device.Device.history g.S.Frozen.Frozen.content g.S.Device.Device.name g.S.Frozen.Frozen.size
     g.S.Watch.Watch.counts) (λ old new. Settles (eyes g.S.Store.history g.S.Device.Device.history g.S.Frozen.Frozen.content g.S.Device.Device.name
     g.S.Frozen.Frozen.size g.S.Watch.Watch.counts) g.S.Device.Device.size old new)
     (λ why old new. FailsSettling (eyes g.S.Store.history g.S.Device.Device.history g.S.Frozen.Frozen.content g.S.Device.Device.name g.S.Frozen.Frozen.size
-    g.S.Watch.Watch.counts) why old new) c.in-Err.fault c.args.self.now.engines c.settle.new.self (λ old new d. d.moved) (λ why old new f. f.moved)
+    g.S.Watch.Watch.counts) why old new) c.in-Err.fault c.args.engines.now c.settle.new.self (λ old new d. d.moved) (λ why old new f. f.moved)
     (λ why old new f. f.fails)
     c.requires.works.2 (λ same. c.settle.ensures.of_engine (c.in-Err.is ∙ ap Err same)) c.in-Err.ensures.stopped)
 
@@ -93,7 +84,7 @@ pub returns-in-Ok-clause-readers : goal.returns-in-Ok-clause-readers
 returns-in-Ok-clause-readers g c = moved_readers (eyes g.S.Store.history g.S.Device.Device.history g.S.Frozen.Frozen.content g.S.Device.Device.name
     g.S.Frozen.Frozen.size g.S.Watch.Watch.counts) (λ old new. Settles
     (eyes g.S.Store.history g.S.Device.Device.history g.S.Frozen.Frozen.content g.S.Device.Device.name g.S.Frozen.Frozen.size g.S.Watch.Watch.counts)
-    g.S.Device.Device.size old new) c.args.self.now.engines c.settle.new.self (λ old new d. d.moved) c.in-Ok.ensures.settled
+    g.S.Device.Device.size old new) c.args.engines.now c.settle.new.self (λ old new d. d.moved) c.in-Ok.ensures.settled
 
 pub returns-in-Err-clause-readers : goal.returns-in-Err-clause-readers
 returns-in-Err-clause-readers g c =
@@ -101,5 +92,5 @@ returns-in-Err-clause-readers g c =
     (λ old new. Settles (eyes g.S.Store.history g.S.Device.Device.history g.S.Frozen.Frozen.content g.S.Device.Device.name g.S.Frozen.Frozen.size
     g.S.Watch.Watch.counts) g.S.Device.Device.size old new) (λ why old new. FailsSettling
     (eyes g.S.Store.history g.S.Device.Device.history g.S.Frozen.Frozen.content g.S.Device.Device.name g.S.Frozen.Frozen.size g.S.Watch.Watch.counts) why old new)
-    (λ why. why ≡ engine.Disk) c.in-Err.fault c.args.self.now.engines c.settle.new.self (λ old new d. d.moved) (λ why old new f. f.moved)
+    (λ why. why ≡ engine.Disk) c.in-Err.fault c.args.engines.now c.settle.new.self (λ old new d. d.moved) (λ why old new f. f.moved)
     (λ same. c.settle.ensures.of_engine (c.in-Err.is ∙ ap Err same)) c.in-Err.ensures.stopped

@@ -8,7 +8,7 @@ use Rattle.tc_part_model.specs.Newest.{names_by, schema_by}
 use Rattle.tc_part_model.specs.PartState.{told}
 use Rattle.tc_schema_model.specs.SchemaTree.{schema_tree}
 use Rattle.tc_keeper.proofs.SchemaFloats.{schemas_have_no_floats}
-use Rattle.tc_keeper.proofs.partitions.schemas_of.Goals as goal
+use Rattle.tc_keeper.proofs.answering.schemas_of.Goals as goal
 
 pub of-requires : goal.of-requires
 of-requires g c =
