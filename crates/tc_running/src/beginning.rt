@@ -1,4 +1,4 @@
-//! What the thread of a job comes to: a point before the job's first call, and others behind it.
+//! What the thread of a job comes to: a point before the job's first call, and others after it.
 
 use crate::pace::{Pace, Point};
 use std::alloc::Global;
@@ -23,7 +23,7 @@ pub struct Start<P: Pace> {
 
 /// Tells a start that its thread was refused.
 #[derive(Drop)]
-pub struct Refusal {
+pub(crate) struct Refusal {
     refused: Arc<AtomicBool>,
 }
 
@@ -44,7 +44,7 @@ impl<P: Pace> Beginning<P> {
     }
 
     /// What the thread is given, and what tells that it was refused.
-    pub fn split(self) -> (Start<P>, Refusal) {
+    pub(crate) fn split(self) -> (Start<P>, Refusal) {
         let Beginning { start, refusal } = self;
         (start, refusal)
     }
@@ -52,11 +52,11 @@ impl<P: Pace> Beginning<P> {
 
 impl<P: Pace> Start<P> {
     /// Comes to the point. Where the thread was refused nobody is there who could be held, and the point is passed over.
-    pub fn reach(&self) {
+    pub(crate) fn reach(&self) {
         self.reach_next(self.point);
     }
 
-    /// Comes to a point behind that, likewise.
+    /// Comes to a point after that, likewise.
     pub fn reach_next(&self, point: Point) {
         if !self.refused.load(Ordering::SeqCst) {
             self.pace.at(point);
@@ -66,7 +66,7 @@ impl<P: Pace> Start<P> {
 
 impl Refusal {
     /// Tells the start that nobody is there who comes to a point.
-    pub fn tell(&self) {
+    pub(crate) fn tell(&self) {
         self.refused.store(true, Ordering::SeqCst);
     }
 }

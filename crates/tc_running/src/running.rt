@@ -2,12 +2,12 @@
 
 ghost use Rattle.std.specs.Prelude.{◌≡◌, None, Some, IfSome, is_some};
 
-use crate::beginning::Beginning;
-use crate::flush::RunningFlush;
-use crate::merge::RunningMerge;
+use crate::beginning::{Beginning, Start};
 use crate::pace::Pace;
+use crate::running_job::RunningJob;
 use std::alloc::Global;
 use std::marker::Model;
+use std::snapshot::Snapshot;
 use std::thread::Threads;
 use tc_flush::{FlushJob, FlushOut};
 use tc_merge::{MergeJob, MergeOut};
@@ -17,8 +17,8 @@ use tc_store::Store;
 /// the thread that made it, since that joins the threads of the jobs.
 #[derive(Drop)]
 pub struct Running<S: Store> {
-    flush: Option<RunningFlush<S>>,
-    merge: Option<RunningMerge<S>>,
+    flush: Option<RunningJob<FlushJob<S>>>,
+    merge: Option<RunningJob<MergeJob<S>>>,
 }
 
 impl<S: Store> Model for Running<S> {
@@ -78,7 +78,14 @@ impl<S: Store> Running<S> {
         requires none_out { self.old.flush ≡ None }
         ensures { self.new ≡ record self.old { flush = Some job } }
     {
-        self.flush = Some(RunningFlush::start(rt, alloc, job, beginning));
+        self.flush = Some(RunningJob::start(
+            rt,
+            Snapshot::of(&job),
+            beginning,
+            move |_start: Start<P>| -> FlushOut<S>
+                ensures { HasFlushed S.Device.history S.Device.size S.Device.name S.Watch.counts job result.watch result.device result.outcome }
+            { job.run(alloc) },
+        ));
     }
 
     /// Starts a merge, as a flush.
@@ -97,7 +104,14 @@ impl<S: Store> Running<S> {
         requires none_out { self.old.merge ≡ None }
         ensures { self.new ≡ record self.old { merge = Some job } }
     {
-        self.merge = Some(RunningMerge::start(rt, alloc, job, beginning));
+        self.merge = Some(RunningJob::start(
+            rt,
+            Snapshot::of(&job),
+            beginning,
+            move |_start: Start<P>| -> MergeOut<S>
+                ensures { HasMerged S.Frozen.content S.Device.history S.Device.size S.Device.name S.Watch.counts job result.watch result.device result.outcome }
+            { job.run(alloc) },
+        ));
     }
 
     /// What is left of the flush that is out, once it has run. None, if none is out.

@@ -2,7 +2,7 @@
 
 /// On a thread, which the handle joins; or done, where no thread could be started, with what is left of it.
 #[derive(Drop)]
-pub enum Underway<H, O> {
+pub(crate) enum Underway<H, O> {
     OnThread(H),
     Done(O),
 }

@@ -59,14 +59,12 @@ pub struct ScanOut<F: Frozen> {
 }
 
 impl<F: Frozen> Scan<F> {
-    /// Takes a snapshot of each lens, and then makes the rows over these, partition by partition. It comes to the point of its
-    /// beginning before it takes them, and to another one behind that.
+    /// Takes a snapshot of each lens, comes to `Point::ScanTaken`, and then makes the rows over the snapshots, partition by partition.
     pub(crate) fn run<P: Pace>(self, alloc: Global, start: &Start<P>) -> ScanOut<F>
         requires few { length self.passes.items < 2 ^ 32 }
         requires reads { All ReadsAView self.passes.items }
         ensures { HasScanned F.content F.Watch.counts (ask_of self.ask) self.passes.items result.passes.items result.outcome }
     {
-        start.reach();
         let Scan { passes, ask } = self;
         let mut passes = passes;
         let outcome = rows_found(alloc, &mut passes, &ask, start);

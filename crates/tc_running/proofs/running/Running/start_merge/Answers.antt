@@ -11,12 +11,11 @@ use Rattle.tc_names.proofs.dictionary.Names.TheSendSync.{the_send as names_send,
 use Rattle.tc_schema.proofs.counters.Counts.TheSendSync.{the_send as counts_send, the_sync as counts_sync}
 use Rattle.tc_schema.proofs.place.Field.TheLaws.TheKnot.{both_send-Node, both_sync-Node}
 use Rattle.tc_schema.specs.contracts.whole.Schema as Schema
-use Rattle.tc_running.specs.contracts.beginning.Start as Start
-use Rattle.tc_running.proofs.merge.RunningMerge.start.Goals as goal
+use Rattle.tc_running.proofs.running.Running.start_merge.Goals as goal
 
 -- the parts of a job one after the other, since a search that goes down through all of them runs out of steps
-pub spawn_with-begun-requires-send-F : goal.spawn_with-begun-requires-send-F
-spawn_with-begun-requires-send-F g c κs within =
+pub start-requires-send-F : goal.start-requires-send-F
+start-requires-send-F g c κs within =
     let schema_send : IsSend (Schema.the_field).row = search (sendable, crosses, counts_send, counts_sync, both_send-Node) depth 20 in
     let schema_sync : IsSync (Schema.the_field).row = search (sendable, crosses, counts_send, counts_sync, both_sync-Node) depth 20 in
     let parts_send : IsSend (Parts.the_field).row = search (sendable, directory_send, names_send) depth 20 in
@@ -27,5 +26,4 @@ spawn_with-begun-requires-send-F g c κs within =
     let component_sync : IsSync (Component.the_field (param 3 g.row.S-Frozen) (param 1 g.row.S-Watch) g.S.Frozen.Frozen g.S.Watch.Watch).row = search sendable depth 20 in
     let parts : IsSend (MergeParts.the_field (param 0 g.row.S) (param 1 g.row.S-Watch) (param 2 g.row.S-Device) (param 3 g.row.S-Frozen) g.S.Watch.Watch g.S.Frozen.Frozen).row = search (sendable, crosses) depth 20 in
     let job : IsSend (MergeJob.the_field (param 0 g.row.S) (param 1 g.row.S-Watch) (param 2 g.row.S-Device) (param 3 g.row.S-Frozen) g.S.Store g.S.Watch.Watch g.S.Device.Device g.S.Frozen.Frozen).row = search sendable depth 20 in
-    let begin : IsSend (Start.the_field (param 5 g.row.P)).row = search (sendable, crosses) depth 20 in
     search (sendable, crosses) depth 20

@@ -15,12 +15,11 @@ use Rattle.tc_schema.specs.contracts.whole.Schema as Schema
 use Rattle.tc_value.proofs.names.Text.TheSendSync.{the_send as text_send, the_sync as text_sync}
 use Rattle.tc_value.proofs.shape_tree.ShapeItems.TheLaws.TheKnot.{both_send-Shape, both_sync-Shape, both_send-ShapeItems, both_sync-ShapeItems, both_send-ShapeMembers, both_sync-ShapeMembers}
 use Rattle.tc_value.specs.contracts.shape_tree.Shape as Shape
-use Rattle.tc_running.specs.contracts.beginning.Start as Start
-use Rattle.tc_running.proofs.flush.RunningFlush.start.Goals as goal
+use Rattle.tc_running.proofs.running.Running.start_flush.Goals as goal
 
 -- the parts of a job one after the other, since a search that goes down through all of them runs out of steps
-pub spawn_with-begun-requires-send-F : goal.spawn_with-begun-requires-send-F
-spawn_with-begun-requires-send-F g c κs within =
+pub start-requires-send-F : goal.start-requires-send-F
+start-requires-send-F g c κs within =
     let schema_send : IsSend (Schema.the_field).row = search (sendable, crosses, counts_send, counts_sync, both_send-Node) depth 20 in
     let shape_send : IsSend (Shape.the_field).row = search (sendable, crosses, text_send, text_sync, both_send-Shape, both_send-ShapeItems, both_send-ShapeMembers) depth 20 in
     let slot_send : IsSend (Slot.the_field).row = search (sendable, version_field_send) depth 20 in
@@ -32,5 +31,4 @@ spawn_with-begun-requires-send-F g c κs within =
     let sealed_sync : IsSync (Sealed.the_field).row = search sendable depth 20 in
     let parts : IsSend (FlushParts.the_field (param 0 g.row.S) (param 1 g.row.S-Watch) (param 2 g.row.S-Device) (param 3 g.row.S-Frozen)).row = search (sendable, crosses, names_send) depth 20 in
     let job : IsSend (FlushJob.the_field (param 0 g.row.S) (param 1 g.row.S-Watch) (param 2 g.row.S-Device) (param 3 g.row.S-Frozen) g.S.Store g.S.Watch.Watch g.S.Device.Device g.S.Frozen.Frozen).row = search sendable depth 20 in
-    let begin : IsSend (Start.the_field (param 5 g.row.P)).row = search (sendable, crosses) depth 20 in
     search (sendable, crosses) depth 20
