@@ -1,13 +1,12 @@
 -- A query for all partitions: its rows are those of what they store together, and stand in front.
 use Rattle.std.proofs.Common.{◌≡◌, ◌∙◌, ap, sym, refl, ℕ, suc, ◌<◌, Bool, true, false, List, [], ◌∷◌, ◌++◌, map, length, arith}
-use Rattle.std.specs.Prelude.{◌%◌, ◌==◌, nat_lt, None, flat_map, fold, All}
+use Rattle.std.specs.Prelude.{◌%◌, ◌==◌, None, flat_map, fold, All}
 use Rattle.std.proofs.lemmas.Bool.Decides.{nat_tests}
 use Rattle.std.proofs.lemmas.List.Elements.{All-nil, All-cons, All-head, All-tail}
 use Rattle.std.proofs.lemmas.List.Sums.{fold-append}
 use Rattle.tc_model.specs.Keyed.{Keyed, Ascends, value_of, with_value}
 use Rattle.tc_request_model.specs.Request.{Request, Ask, query}
 use Rattle.tc_request_model.specs.Reply.{Reply, rows}
-use Rattle.tc_model.proofs.KeyedEquality.{value_of-here}
 use Rattle.tc_model.proofs.KeyedOrder.{All-with_value}
 use Rattle.tc_plain_model.specs.Writes.{Pairs}
 use Rattle.tc_plain_model.specs.Store.{Store}
@@ -16,18 +15,11 @@ use Rattle.tc_plain_model.specs.Room.{Limits}
 use Rattle.tc_run_model.specs.World.{united}
 use Rattle.tc_run_model.proofs.UnitedPairs.{AreBehind, with_all, Ascends-with_all, with_all-ascending}
 use Rattle.tc_route.specs.Shares.{share}
-use Rattle.tc_route.specs.Gathered.{with_reply, joined, beside}
+use Rattle.tc_route.specs.Gathered.{with_reply, joined}
 use Rattle.tc_route.specs.Answers.{answered, shares_answered, KeepOwn}
-use Rattle.tc_route.proofs.Fronts.{fold-behind}
+use Rattle.tc_route.proofs.Fronts.{fold-behind, with_reply-same}
 use Rattle.tc_route.proofs.Homes.{all_of, AreBehind-answered, AreBehind-share}
 use Rattle.tc_route.proofs.OrderedRows.{in_order-rows}
-
--- a further reply at the least place
-pub with_reply-same : (at : ℕ) (first a : Reply) (all : Keyed Reply) → with_reply ((at, first) ∷ all) (at, a) ≡ (at, joined first a) ∷ all
-with_reply-same at first a all =
-    let not_before : nat_lt at at ≡ false = grind (arith, nat_tests) in
-    let itself : (at == at) ≡ true = grind (arith, nat_tests) in
-    ap (λ o. with_value at (beside o a) ((at, first) ∷ all)) (value_of-here at first all) ∙ rw (not_before, itself) refl
 
 -- ---- keys of different partitions
 
@@ -88,10 +80,10 @@ asked_further limits count p at ask rs (s ∷ ss) ps all ascends before own behi
     let asked = all_of (shares_answered limits count (suc p) ((at, query ask) ∷ rs) ss) in
     let together = with_all ps s.pairs in
     let mine_behind : AreBehind at mine = AreBehind-answered limits at (share count p rs) s (AreBehind-share count p at rs behind) in
-    ap (λ xs. fold with_reply xs (mine ++ asked)) (with_reply-same at (rows (rows_over ask ps)) (rows (rows_over ask s.pairs)) all)
+    ap (λ xs. fold with_reply xs (mine ++ asked)) (with_reply-same joined at (rows (rows_over ask ps)) (rows (rows_over ask s.pairs)) all)
     ∙ ap (λ r. fold with_reply ((at, rows r) ∷ all) (mine ++ asked)) (in_order-rows ask ps s.pairs ascends own.0 (absent count p ps s.pairs before own.1))
     ∙ fold-append with_reply ((at, rows (rows_over ask together)) ∷ all) mine asked
-    ∙ ap (λ xs. fold with_reply xs asked) (fold-behind at (rows (rows_over ask together)) all mine mine_behind)
+    ∙ ap (λ xs. fold with_reply xs asked) (fold-behind joined at (rows (rows_over ask together)) all mine mine_behind)
     ∙ asked_further limits count (suc p) at ask rs ss together (fold with_reply all mine) (Ascends-with_all ps s.pairs ascends)
     (before_all count (suc p) ps s.pairs (before_more count p ps before) (before_own count p s.pairs own.1)) own.2 behind
     ∙ ap (λ qs. (at, rows (rows_over ask qs)) ∷ fold with_reply (fold with_reply all mine) (all_of (shares_answered limits count (suc p) rs ss))) (sym (fold-append (λ xs e. with_value e.0 e.1 xs) ps s.pairs (pairs_of ss)))
@@ -106,7 +98,7 @@ asked_all limits count at ask rs (s ∷ ss) some own behind =
     let asked = all_of (shares_answered limits count 1 ((at, query ask) ∷ rs) ss) in
     let mine_behind : AreBehind at mine = AreBehind-answered limits at (share count 0 rs) s (AreBehind-share count 0 at rs behind) in
     fold-append with_reply ((at, rows (rows_over ask s.pairs)) ∷ []) mine asked
-    ∙ ap (λ xs. fold with_reply xs asked) (fold-behind at (rows (rows_over ask s.pairs)) [] mine mine_behind)
+    ∙ ap (λ xs. fold with_reply xs asked) (fold-behind joined at (rows (rows_over ask s.pairs)) [] mine mine_behind)
     ∙ asked_further limits count 1 at ask rs ss s.pairs (fold with_reply [] mine) own.0 (before_own count 0 s.pairs own.1) own.2 behind
     ∙ ap (λ qs. (at, rows (rows_over ask (with_all qs (pairs_of ss)))) ∷ fold with_reply (fold with_reply [] mine) (all_of (shares_answered limits count 1 rs ss))) (sym (with_all-ascending s.pairs own.0))
     ∙ ap (λ qs. (at, rows (rows_over ask qs)) ∷ fold with_reply (fold with_reply [] mine) (all_of (shares_answered limits count 1 rs ss))) (sym (fold-append (λ xs e. with_value e.0 e.1 xs) [] s.pairs (pairs_of ss)))

@@ -13,7 +13,7 @@ use Rattle.tc_request_model.specs.Part.{part_reply, part_left}
 use Rattle.tc_run_model.specs.World.{changed_at}
 use Rattle.tc_run_model.proofs.UnitedPairs.{AreBehind}
 use Rattle.tc_route.specs.Shares.{is_for, share}
-use Rattle.tc_route.specs.Gathered.{with_reply}
+use Rattle.tc_route.specs.Gathered.{joined, with_reply}
 use Rattle.tc_route.specs.Answers.{answered, shares_answered}
 use Rattle.tc_route.proofs.Fronts.{with_reply-front, fold-behind, AreBehind-fold}
 
@@ -79,14 +79,14 @@ homed limits count home p zero r rs (s ∷ ss) acc one at below behind rs_behind
     let more_behind : AreBehind r.0 (mine ++ others) = AreBehind-shares limits count p r.0 rs (part_left limits r.1 s ∷ ss) rs_behind in
     ap (λ b. fold with_reply acc (answered limits (cond b (r ∷ share count p rs) (share count p rs)) s ++ all_of (shares_answered limits count (suc p) (r ∷ rs) ss))) (one p ∙ is_here)
     ∙ ap (λ more. fold with_reply acc (((r.0, reply) ∷ mine) ++ all_of more)) (later limits count home (suc p) r rs ss one (omega (arith, here)))
-    ∙ ap (λ all. fold with_reply all (mine ++ others)) (with_reply-front r.0 reply acc behind)
-    ∙ fold-behind r.0 reply acc (mine ++ others) more_behind
+    ∙ ap (λ all. fold with_reply all (mine ++ others)) (with_reply-front joined r.0 reply acc behind)
+    ∙ fold-behind joined r.0 reply acc (mine ++ others) more_behind
 homed limits count home p (suc k) r rs (s ∷ ss) acc one at below behind rs_behind =
     let mine = answered limits (share count p rs) s in
     let apart : (home == p) ≡ false = grind (arith, nat_tests, at) in
     ap (λ b. fold with_reply acc (answered limits (cond b (r ∷ share count p rs) (share count p rs)) s ++ all_of (shares_answered limits count (suc p) (r ∷ rs) ss))) (one p ∙ apart)
     ∙ fold-append with_reply acc mine (all_of (shares_answered limits count (suc p) (r ∷ rs) ss))
     ∙ homed limits count home (suc p) k r rs ss (fold with_reply acc mine) one (omega (arith, at)) (omega (arith, below))
-    (AreBehind-fold r.0 acc mine behind (AreBehind-answered limits r.0 (share count p rs) s (AreBehind-share count p r.0 rs rs_behind))) rs_behind
+    (AreBehind-fold joined r.0 acc mine behind (AreBehind-answered limits r.0 (share count p rs) s (AreBehind-share count p r.0 rs rs_behind))) rs_behind
     ∙ ap (λ all. (r.0, part_reply limits r.1 (unwrap_or (slice_get ss k) empty)) ∷ all)
     (sym (fold-append with_reply acc mine (all_of (shares_answered limits count (suc p) rs (changed_at k (part_left limits r.1) ss)))))

@@ -14,8 +14,7 @@ use Rattle.tc_run_model.proofs.UnitedPairs.{behind_first, rest_ascends, AreBehin
 use Rattle.tc_route.specs.Answers.{AreAnswers, AreKindsGathered, AreOfShares, IsForParts}
 use Rattle.tc_route.specs.Gathered.{gathered, in_order, joined, with_reply}
 use Rattle.tc_route.specs.Shares.{is_for, share}
-use Rattle.tc_route.proofs.AskedAll.{with_reply-same}
-use Rattle.tc_route.proofs.Fronts.{fold-behind, with_reply-front, AreBehind-fold}
+use Rattle.tc_route.proofs.Fronts.{fold-behind, with_reply-front, with_reply-same, AreBehind-fold}
 use Rattle.tc_route.proofs.Homes.{all_of, AreBehind-share}
 
 -- the places of answers are those of their requests
@@ -83,7 +82,7 @@ record IsFronted (count p : ℕ) (r : ℕ × Request) (rs : Keyed Request) (part
 go_on : (at : ℕ) (a : Reply) (acc replies : Keyed Reply) (parts : List (Keyed Reply)) → AreBehind at replies
     → fold with_reply ((at, a) ∷ acc) (replies ++ all_of parts) ≡ fold with_reply ((at, a) ∷ fold with_reply acc replies) (all_of parts)
 go_on at a acc replies parts behind =
-    fold-append with_reply ((at, a) ∷ acc) replies (all_of parts) ∙ ap (λ s. fold with_reply s (all_of parts)) (fold-behind at a acc replies behind)
+    fold-append with_reply ((at, a) ∷ acc) replies (all_of parts) ∙ ap (λ s. fold with_reply s (all_of parts)) (fold-behind joined at a acc replies behind)
 
 -- one part more in front of those that go on
 put_front : (count p : ℕ) (r : ℕ × Request) (rs : Keyed Request) (replies mine : Keyed Reply) (parts : List (Keyed Reply)) (acc all : Keyed Reply) → AreAnswers (share count p rs) mine
@@ -112,7 +111,7 @@ found count p r rs (replies ∷ parts) a acc for_parts of_kind behind are =
         let later : AreBehind r.0 replies = behind_answers r.0 (share count p rs) replies (AreBehind-share count p r.0 rs behind) mine.2 in
         let same : fold with_reply ((r.0, a) ∷ acc) (((at, b) ∷ replies) ++ all_of parts) ≡ fold with_reply ((r.0, joined a b) ∷ fold with_reply acc replies) (all_of parts) =
         ap (λ n. fold with_reply (with_reply ((r.0, a) ∷ acc) (n, b)) (replies ++ all_of parts)) mine.0
-        ∙ ap (λ s. fold with_reply s (replies ++ all_of parts)) (with_reply-same r.0 a b acc)
+        ∙ ap (λ s. fold with_reply s (replies ++ all_of parts)) (with_reply-same joined r.0 a b acc)
         ∙ go_on r.0 (joined a b) acc replies parts later in
         subst (IsFronted count p r rs (((at, b) ∷ replies) ∷ parts) acc) (sym same)
         (put_front count p r rs ((at, b) ∷ replies) replies parts acc (fold with_reply ((r.0, joined a b) ∷ fold with_reply acc replies) (all_of parts)) mine.2
@@ -130,7 +129,7 @@ at_head count p r rs ((at, b) ∷ replies) parts acc for_parts behind acc_behind
     let later : AreBehind r.0 replies = behind_answers r.0 (share count p rs) replies (AreBehind-share count p r.0 rs behind) mine.2 in
     let same : fold with_reply acc (((at, b) ∷ replies) ++ all_of parts) ≡ fold with_reply ((r.0, b) ∷ fold with_reply acc replies) (all_of parts) =
     ap (λ n. fold with_reply (with_reply acc (n, b)) (replies ++ all_of parts)) mine.0
-    ∙ ap (λ s. fold with_reply s (replies ++ all_of parts)) (with_reply-front r.0 b acc acc_behind)
+    ∙ ap (λ s. fold with_reply s (replies ++ all_of parts)) (with_reply-front joined r.0 b acc acc_behind)
     ∙ go_on r.0 b acc replies parts later in
     subst (IsFronted count p r rs (((at, b) ∷ replies) ∷ parts) acc) (sym same)
     (put_front count p r rs ((at, b) ∷ replies) replies parts acc (fold with_reply ((r.0, b) ∷ fold with_reply acc replies) (all_of parts)) mine.2
@@ -145,7 +144,7 @@ fronted count p zero r rs (replies ∷ parts) acc for_parts behind acc_behind le
     let is : is_for count p r.1 ≡ true = subst (λ n. is_for count n r.1 ≡ true) there here in
     at_head count p r rs replies parts acc for_parts behind acc_behind (subst (λ b. AreAnswers (cond b (r ∷ share count p rs) (share count p rs)) replies) is are.0) are.1
 fronted count p (suc k) r rs (replies ∷ parts) acc for_parts behind acc_behind less here are =
-    step (is_for count p r.1) are.0 (λ later. fronted count (suc p) k r rs parts (fold with_reply acc replies) for_parts behind (AreBehind-fold r.0 acc replies acc_behind later) (omega (arith, less)) further are.1)
+    step (is_for count p r.1) are.0 (λ later. fronted count (suc p) k r rs parts (fold with_reply acc replies) for_parts behind (AreBehind-fold joined r.0 acc replies acc_behind later) (omega (arith, less)) further are.1)
   where
     further : is_for count (suc p + k) r.1 ≡ true
     further = let there : p + suc k ≡ suc p + k = omega arith in subst (λ n. is_for count n r.1 ≡ true) there here

@@ -5,5 +5,6 @@ mod AskedAll
 mod GatheredWindows
 mod KindsGathered
 mod PartsGiven
+mod OrderedMerge
 mod RepliesPut
 mod RenderedGathered
