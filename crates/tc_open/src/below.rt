@@ -1,6 +1,6 @@
 //! The shape of what a key has below the logs.
 
-ghost use Rattle.std.specs.Prelude.{◌≡◌, ◌<◌, ◌⊎◌, true, Some, None, is_some, length, option_map, IfErr, IfOk, IsErrOf};
+ghost use Rattle.std.specs.Prelude.{◌≡◌, ◌⊎◌, true, None, is_some, option_map, IfErr, IfOk, IsErrOf};
 ghost use Rattle.tc_model.specs.Keyed.{value_of};
 ghost use Rattle.tc_value.specs.ShapeMeaning.{shape_tree};
 ghost use Rattle.tc_list.specs.Lookups.{HaveNone};
