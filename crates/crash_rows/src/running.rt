@@ -1,7 +1,7 @@
 //! Runs over stores in memory.
 
 ghost use Rattle.std.specs.Prelude.{IfSome};
-ghost use Rattle.stop_rows.specs.Rests.{AreAtRest};
+ghost use Rattle.crash_rows.specs.Rests.{AreAtRest};
 
 use crate::files::{Failing, Files, Who};
 use crate::script::{Counts, Script};

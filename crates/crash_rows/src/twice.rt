@@ -1,6 +1,6 @@
 //! An opening behind a stop fails too, at each of its calls in turn, and is stopped there.
 
-ghost use Rattle.stop_rows.specs.Rests.{AreAtRest};
+ghost use Rattle.crash_rows.specs.Rests.{AreAtRest};
 
 use crate::files::{Failing, Who};
 use crate::running::{Found, Stopped, Trial};

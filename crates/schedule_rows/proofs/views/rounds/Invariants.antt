@@ -1,7 +1,7 @@
 use Rattle.std.proofs.Common.{◌≡◌}
 use Rattle.tc_view.specs.declared.rule.Key.{Key}
 use Rattle.tc_view.specs.Places.{awaited_by, IsLensOf, IsReady}
-use Rattle.pace_rows.proofs.views.rounds.Given as goal
+use Rattle.schedule_rows.proofs.views.rounds.Given as goal
 
 -- so many writes were published as there were rounds
 abbrev pub invariant-loop-round : goal.invariant-loop-round

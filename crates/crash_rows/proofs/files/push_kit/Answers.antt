@@ -6,7 +6,7 @@ use Rattle.tc_store.specs.Disk.{IsAtRest}
 use Rattle.tc_store.specs.Memory.Shelf.{MemKit}
 use Rattle.tc_store.specs.Memory.Store.{store_disks}
 use Rattle.tc_store.specs.Moments.{IfTold}
-use Rattle.stop_rows.proofs.files.push_kit.Goals as goal
+use Rattle.crash_rows.proofs.files.push_kit.Goals as goal
 
 abbrev rests : MemKit → Type 0
 rests kit = IfTold (store_disks kit.store) IsAtRest

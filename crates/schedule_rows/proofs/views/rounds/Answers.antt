@@ -3,7 +3,7 @@ use Rattle.tc_view.specs.declared.content.Content.{Content}
 use Rattle.tc_view.specs.Changes.{writes_in}
 use Rattle.tc_view.specs.Places.{awaited_by}
 use Rattle.tc_view.specs.Rules.{IsViewOf}
-use Rattle.pace_rows.proofs.views.rounds.Goals as goal
+use Rattle.schedule_rows.proofs.views.rounds.Goals as goal
 
 pub publish-requires-clause-ready : goal.publish-requires-clause-ready
 publish-requires-clause-ready g c κs within = let i = c.loop-round.invariant in (i.0, c.in_ok-append.ensures.ready i.0 i.1)

@@ -4,7 +4,7 @@ ghost use Rattle.std.specs.Prelude.{All, IfSome};
 ghost use Rattle.tc_store.specs.Disk.{IsAtRest};
 ghost use Rattle.tc_store.specs.Memory.Store.{store_disks};
 ghost use Rattle.tc_store.specs.Moments.{IfTold};
-ghost use Rattle.stop_rows.specs.Rests.{AreAtRest};
+ghost use Rattle.crash_rows.specs.Rests.{AreAtRest};
 
 use std::alloc::Global;
 use tc_store::{Kit, MemShelf, MemStore, MemWatch, Shelf};
@@ -34,7 +34,7 @@ pub(crate) struct Files {
 
 impl Files {
     ghost use Rattle.std.specs.Prelude.{All, IfSome};
-    ghost use Rattle.stop_rows.specs.Rests.{AreAtRest};
+    ghost use Rattle.crash_rows.specs.Rests.{AreAtRest};
 
     /// No file of one partition, or of two.
     pub(crate) fn none(alloc: Global, are_two: bool) -> Files

@@ -1,5 +1,5 @@
 use Rattle.std.proofs.Common.{ap, ◌∙◌}
-use Rattle.pace_rows.proofs.views.seen.Goals as goal
+use Rattle.schedule_rows.proofs.views.seen.Goals as goal
 
 pub rounds-seen-requires-after_bounds : goal.rounds-seen-requires-after_bounds
 rounds-seen-requires-after_bounds g c κs within =

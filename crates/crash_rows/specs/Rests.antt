@@ -3,7 +3,7 @@ use Rattle.std.specs.Prelude.{IfSome}
 use Rattle.tc_store.specs.Disk.{IsAtRest}
 use Rattle.tc_store.specs.Memory.Store.{store_disks}
 use Rattle.tc_store.specs.Moments.{IfTold}
-use Rattle.stop_rows.specs.declared.files.Files.{Files}
+use Rattle.crash_rows.specs.declared.files.Files.{Files}
 
 -- of no partition is anything pending
 abbrev pub AreAtRest : Files → Type 0

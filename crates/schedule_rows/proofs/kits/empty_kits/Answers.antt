@@ -4,7 +4,7 @@ use Rattle.tc_store.specs.Disk.{IsAtRest}
 use Rattle.tc_store.specs.Memory.Shelf.{MemKit}
 use Rattle.tc_store.specs.Memory.Store.{store_disks}
 use Rattle.tc_store.specs.Moments.{IfTold}
-use Rattle.pace_rows.proofs.kits.empty_kits.Goals as goal
+use Rattle.schedule_rows.proofs.kits.empty_kits.Goals as goal
 
 abbrev rests : MemKit → Type 0
 rests kit = IfTold (store_disks kit.store) IsAtRest

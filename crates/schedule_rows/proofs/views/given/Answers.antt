@@ -1,4 +1,4 @@
-use Rattle.pace_rows.proofs.views.given.Goals as goal
+use Rattle.schedule_rows.proofs.views.given.Goals as goal
 
 pub lens-requires-2-clause-ready : goal.lens-requires-2-clause-ready
 lens-requires-2-clause-ready g c κs within = let r = c.requires in (r.0, c.lens.ensures.ready r.0 r.1)
