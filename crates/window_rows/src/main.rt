@@ -14,18 +14,19 @@ use crate::heard::heard;
 use crate::windows::{fed, given, routed};
 use std::alloc::Global;
 use std::io;
+use tc_rows::{Answering, answer_rows};
 
 fn main(rt: HostRuntime) -> io::Result<()> {
-    for row in rt.lines(rt.alloc()) {
-        answer(&rt, row?.as_str())?;
-    }
-    Ok(())
+    answer_rows(&rt, Shares)
 }
 
-fn answer(rt: &(impl Print + AllocGlobal), row: &str) -> io::Result<()> {
-    match answer_of(rt.alloc(), row) {
-        Some(answer) => print!(rt; "{}", answer.as_str()),
-        None => println!(rt; "no answer"),
+// A row has all that its answer takes.
+#[derive(Drop)]
+struct Shares;
+
+impl<R: AllocGlobal> Answering<R> for Shares {
+    fn answer(&mut self, rt: &R, row: &str) -> Option<String> {
+        answer_of(rt.alloc(), row)
     }
 }
 
@@ -33,7 +34,6 @@ fn answer(rt: &(impl Print + AllocGlobal), row: &str) -> io::Result<()> {
 fn answer_of(alloc: Global, row: &str) -> Option<String> {
     let (call, argument) = row.split_once(' ')?;
     match call {
-        "#" => format!(in alloc; "{row}\n").ok(),
         "feed" => {
             let (lines, partitions) = argument.split_once(' ')?;
             let window = routed(alloc, fed(alloc, lines.parse().ok()?)?)?;
