@@ -12,30 +12,28 @@ mod values;
 use crate::values::answer_of;
 use std::alloc::Global;
 use std::io;
+use tc_rows::{Answering, answer_rows, bytes};
 
 fn main(rt: HostRuntime) -> io::Result<()> {
-    for row in rt.lines(rt.alloc()) {
-        answer(&rt, row?.as_str())?;
-    }
-    Ok(())
+    answer_rows(&rt, Paths)
 }
 
-fn answer(rt: &(impl Print + AllocGlobal), row: &str) -> io::Result<()> {
-    match line_of(rt.alloc(), row) {
-        Some(line) => println!(rt; "{}", line.as_str()),
-        None => println!(rt; "no answer"),
+// A row has all that its answer takes.
+#[derive(Drop)]
+struct Paths;
+
+impl<R: AllocGlobal> Answering<R> for Paths {
+    fn answer(&mut self, rt: &R, row: &str) -> Option<String> {
+        line_of(rt.alloc(), row)
     }
 }
 
 // The line that answers a row.
 fn line_of(alloc: Global, row: &str) -> Option<String> {
-    if row.starts_with('#') {
-        return String::from_str(alloc, row).ok();
-    }
     let (document, rest) = row.split_once('\t')?;
     match rest.split_once('\t') {
         Some((query, digits)) => {
-            let spelled = hex::decode(alloc, digits.as_bytes()).ok()?;
+            let spelled = bytes(alloc, digits)?;
             answer_of(alloc, document, query, Some(spelled))
         }
         None => answer_of(alloc, document, rest, None),
