@@ -6,6 +6,7 @@ use std::fmt::Write;
 use tc_command::{Ask, Command, Hop, ParseFault, Refusal, Reply};
 use tc_command_reader::CommandReader;
 use tc_json::text_of;
+use tc_rows::bytes;
 use tc_value::Doc;
 
 /// What a line asks for: the command, or the number and the reply of the refusal.
@@ -29,8 +30,7 @@ pub(crate) fn padded(alloc: Global, argument: &str) -> Option<String> {
 
 /// The same of a line in hexadecimal digits.
 pub(crate) fn hex(alloc: Global, digits: &str) -> Option<String> {
-    let line = hex::decode(alloc, digits.as_bytes()).ok()?;
-    asked(alloc, line.as_slice())
+    asked(alloc, bytes(alloc, digits)?.as_slice())
 }
 
 fn refused(alloc: Global, refusal: Refusal) -> Option<String> {

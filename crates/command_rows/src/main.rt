@@ -11,26 +11,26 @@ mod words;
 
 use std::alloc::Global;
 use std::io;
+use tc_rows::{Answering, answer_rows, name_and_argument};
 
 fn main(rt: HostRuntime) -> io::Result<()> {
-    for row in rt.lines(rt.alloc()) {
-        answer(&rt, row?.as_str())?;
-    }
-    Ok(())
+    answer_rows(&rt, Commands)
 }
 
-fn answer(rt: &(impl Print + AllocGlobal), row: &str) -> io::Result<()> {
-    match answer_of(rt.alloc(), row) {
-        Some(answer) => print!(rt; "{}", answer.as_str()),
-        None => println!(rt; "no answer"),
+// A row has all that its answer takes.
+#[derive(Drop)]
+struct Commands;
+
+impl<R: AllocGlobal> Answering<R> for Commands {
+    fn answer(&mut self, rt: &R, row: &str) -> Option<String> {
+        answer_of(rt.alloc(), row)
     }
 }
 
 // The lines that answer a row.
 fn answer_of(alloc: Global, row: &str) -> Option<String> {
-    let (call, argument) = row.split_once(' ').unwrap_or((row, ""));
+    let (call, argument) = name_and_argument(row);
     match call {
-        "#" => format!(in alloc; "{row}\n").ok(),
         "words" => words::asked(alloc, argument),
         "no_words" => words::shown(alloc, &[]),
         "reply" => replies::written(alloc, argument),

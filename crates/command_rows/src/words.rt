@@ -1,18 +1,13 @@
 //! The words of the command line.
 
 use std::alloc::Global;
+use tc_rows::words;
 use tc_value::Text;
 use tc_words::{WordsFault, check_asked, invocation};
 
 /// What words ask for, which stand between single spaces.
 pub(crate) fn asked(alloc: Global, line: &str) -> Option<String> {
-    let mut words = Vec::new(alloc);
-    for word in line.split(' ') {
-        words
-            .push(Text::of(String::from_str(alloc, word).ok()?))
-            .ok()?;
-    }
-    shown(alloc, words.as_slice())
+    shown(alloc, words(alloc, line)?.as_slice())
 }
 
 /// What words ask for, or that they are no command line.
