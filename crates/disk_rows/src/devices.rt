@@ -3,11 +3,11 @@
 ghost use Rattle.std.specs.Prelude.{◌≡◌};
 ghost use Rattle.tc_store.specs.Memory.Device.{device_size};
 
-use crate::arguments::{bytes, device_answer, number, number_and_bytes, store_fault, word};
 use crate::desk::{Desk, Hand};
 use crate::logs::created;
 use std::alloc::Global;
 use tc_log::{LogHead, MAX_NUMBER};
+use tc_rows::{bytes, device_answer, number, number_and_bytes, store_fault, word};
 use tc_store::{Device, Gated, MemDevice, MemWatch, Store};
 
 /// What a call answers.

@@ -1,8 +1,8 @@
 //! Calls on a file behind its closed gate.
 
-use crate::arguments::{device_answer, word};
 use crate::desk::{Desk, Hand};
 use std::alloc::Global;
+use tc_rows::{device_answer, word};
 use tc_store::{Gated, MemDevice};
 
 /// What a call answers.

@@ -5,12 +5,12 @@ ghost use Rattle.disk_rows.specs.Writes.{IsShortWrite};
 ghost use Rattle.tc_log.specs.Layout.{number_end};
 ghost use Rattle.tc_store.specs.Memory.Device.{device_size};
 
-use crate::arguments::{device_answer, number, number_and_bytes, word};
 use crate::desk::{Desk, Hand};
 use std::alloc::Global;
 use tc_bytes::Bytes;
 use tc_log::{Frame, Log, LogHead, MAX_NUMBER, Write};
 use tc_record::is_stored_record;
+use tc_rows::{device_answer, number, number_and_bytes, word};
 use tc_store::MemDevice;
 
 // The bytes of a record, at most.

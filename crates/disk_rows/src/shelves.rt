@@ -5,12 +5,11 @@ ghost use Rattle.tc_store.specs.Disk.{IsAtRest};
 ghost use Rattle.tc_store.specs.Memory.Store.{store_disks};
 ghost use Rattle.tc_store.specs.Moments.{IfTold};
 
-use crate::arguments::word;
 use crate::desk::NAME;
-use crate::stores::store_with;
 use std::alloc::Global;
+use tc_rows::{kit_over, store_with, word};
 use tc_store::{
-    FileName, FileNames, Kit, MemShelf, MemStore, MemWatch, Shelf, ShelfFault, Store, name_order,
+    FileName, FileNames, Kit, MemShelf, MemStore, Shelf, ShelfFault, Store, name_order,
 };
 
 /// What a shelf of one kit answers for the number 1, and twice for the number 0.
@@ -31,15 +30,9 @@ pub(crate) fn kits_given(alloc: Global) -> Option<String> {
 fn kits(alloc: Global) -> Option<Vec<Kit<MemStore>>>
     ensures { IfSome result (λ kits. All (λ kit. IfTold (store_disks kit.store) IsAtRest) kits.items) }
 {
+    let store = store_with(alloc, NAME, Vec::new(alloc)).ok()?;
     let mut kits = Vec::new(alloc);
-    kits.push(Kit {
-        store: store_with(alloc, Vec::new(alloc)).ok()?,
-        main: MemWatch::new(Vec::new(alloc)),
-        flusher: MemWatch::new(Vec::new(alloc)),
-        merger: MemWatch::new(Vec::new(alloc)),
-        reader: MemWatch::new(Vec::new(alloc)),
-    })
-    .ok()?;
+    kits.push(kit_over(alloc, store)).ok()?;
     Some(kits)
 }
 

@@ -4,11 +4,11 @@ ghost use Rattle.std.specs.Prelude.{◌≡◌, true, IfSome};
 ghost use Rattle.tc_store.specs.Gate.{is_open_file};
 ghost use Rattle.tc_store.specs.Memory.Frozen.{frozen_content};
 
-use crate::arguments::{digits, number, store_fault, word};
 use crate::desk::{Desk, Hand};
 use std::alloc::Global;
 use std::fmt::Write as _;
 use tc_log::{LogRead, Write, read_frames, read_log_head};
+use tc_rows::{digits, gate, number, part_of, store_fault, whole, word};
 use tc_store::{Frozen, MemFrozen, MemWatch, ReadFault, Store, is_open};
 
 /// What a call answers.
@@ -46,7 +46,7 @@ fn reading(
 ) -> Option<String> {
     match name {
         "len" => number(alloc, file.len()),
-        "show" => show(alloc, file),
+        "show" => whole(alloc, file),
         "read" => read(alloc, watch, file, argument),
         "is_open" => gate(alloc, watch, file),
         "head" => head(alloc, watch, file, argument),
@@ -55,32 +55,11 @@ fn reading(
     }
 }
 
-// All bytes, by a watch that nobody sees.
-fn show(alloc: Global, file: &MemFrozen) -> Option<String> {
-    let mut bytes = vec![in alloc; 0u8; file.len() as usize].ok()?;
-    file.read(0, &mut bytes, &mut MemWatch::new(Vec::new(alloc)))
-        .ok()?;
-    digits(alloc, &bytes)
-}
-
 // So many bytes from a place on.
 fn read(alloc: Global, watch: &mut MemWatch, file: &MemFrozen, argument: &str) -> Option<String> {
-    let (at, count) = argument.split_once(' ')?;
-    let (at, count) = (at.parse::<u32>().ok()? as u64, count.parse::<u32>().ok()?);
-    if at + count as u64 > file.len() {
-        return None;
-    }
-    let mut bytes = vec![in alloc; 0u8; count as usize].ok()?;
-    match file.read(at, &mut bytes, watch) {
-        Ok(()) => digits(alloc, &bytes),
-        Err(_) => word(alloc, "fault"),
-    }
-}
-
-fn gate(alloc: Global, watch: &mut MemWatch, file: &MemFrozen) -> Option<String> {
-    match is_open(file, watch) {
-        Ok(is_open) => format!(in alloc; "{is_open}").ok(),
-        Err(_) => word(alloc, "fault"),
+    match part_of(alloc, watch, file, argument)? {
+        Ok(bytes) => digits(alloc, &bytes),
+        Err(fault) => read_fault(alloc, fault),
     }
 }
 

@@ -1,18 +1,11 @@
 //! Calls on a store.
 
-ghost use Rattle.std.specs.Prelude.{◌≡◌, true, false, IfOk, IfSome};
-ghost use Rattle.tc_store.specs.declared.file_name.FileName.TheVariants.{Log};
-ghost use Rattle.tc_store.specs.Disk.{IsAtRest, IsSettledHome, IsThere};
-ghost use Rattle.tc_store.specs.Memory.Store.{store_disks};
-ghost use Rattle.tc_store.specs.Moments.{IfTold};
-
-use crate::arguments::{bytes, numbers, store_fault, word};
 use crate::desk::{Desk, Hand, NAME};
 use crate::samples::LOG;
-use std::alloc::{AllocError, Global};
+use std::alloc::Global;
 use std::mem;
-use tc_bytes::Bytes;
-use tc_store::{MemFile, MemFrozen, MemStore, MemWatch, Store, StoreFault};
+use tc_rows::{bytes, failing, is_there, store_fault, store_with, taken, word};
+use tc_store::{MemStore, Store};
 
 /// What a call answers, with nothing in hand.
 pub(crate) fn answer_of(
@@ -32,7 +25,7 @@ pub(crate) fn answer_of(
 
 /// A watch that fails the calls of these numbers.
 pub(crate) fn fails(alloc: Global, desk: &mut Desk, argument: &str) -> Option<String> {
-    desk.watch = MemWatch::new(numbers(alloc, argument)?);
+    desk.watch = failing(alloc, argument)?;
     word(alloc, "ok")
 }
 
@@ -49,19 +42,20 @@ pub(crate) fn stop(alloc: Global, desk: &mut Desk, argument: &str) -> Option<Str
     let choice = argument.parse::<u64>().ok()?;
     desk.hold(Hand::Nothing);
     let store = mem::replace(&mut desk.store, MemStore::new(alloc));
-    let Ok(mut left) = store.stop(choice) else {
-        return None;
-    };
-    if !is_there(alloc, &mut left)? {
+    let mut left = store.stop(choice).ok()?;
+    let Some(file) = taken(alloc, &mut left, NAME)? else {
         return word(alloc, "absent");
-    }
-    let taken = left.take(alloc, NAME, &mut MemWatch::new(Vec::new(alloc)));
+    };
     desk.store = left;
-    held(alloc, desk, taken)
+    desk.hold(Hand::Still(file));
+    word(alloc, "ok")
 }
 
-// A still file that was taken is in hand.
-fn held(alloc: Global, desk: &mut Desk, taken: Result<MemFrozen, StoreFault>) -> Option<String> {
+// A store with one file at home, durable as it is, which is taken.
+fn home(alloc: Global, desk: &mut Desk, bytes: Vec<u8>) -> Option<String> {
+    let mut store = store_with(alloc, NAME, bytes).ok()?;
+    let taken = store.take(alloc, NAME, &mut desk.watch);
+    desk.store = store;
     match taken {
         Ok(file) => {
             desk.hold(Hand::Still(file));
@@ -69,25 +63,6 @@ fn held(alloc: Global, desk: &mut Desk, taken: Result<MemFrozen, StoreFault>) ->
         }
         Err(fault) => store_fault(alloc, fault),
     }
-}
-
-// A store with one file at home, durable as it is, which is taken.
-fn home(alloc: Global, desk: &mut Desk, bytes: Vec<u8>) -> Option<String> {
-    let mut store = store_with(alloc, bytes).ok()?;
-    let taken = store.take(alloc, NAME, &mut desk.watch);
-    desk.store = store;
-    held(alloc, desk, taken)
-}
-
-/// A store with a file at home, durable as it is.
-pub(crate) fn store_with(alloc: Global, bytes: Vec<u8>) -> Result<MemStore, AllocError>
-    ensures home { IfOk result (λ store. IfTold (store_disks store) (λ disk. IsSettledHome (disk (Log 1)))) }
-    ensures at_rest { IfOk result (λ store. IfTold (store_disks store) IsAtRest) }
-{
-    let bytes = Bytes::of(bytes);
-    let mut files = Vec::new(alloc);
-    files.push(MemFile { name: NAME, bytes })?;
-    Ok(MemStore::with(files))
 }
 
 // The first bytes of the worked log.
@@ -107,7 +82,7 @@ fn turned(alloc: Global, argument: &str) -> Option<Vec<u8>> {
 
 // A file is made, where there is none.
 fn make(alloc: Global, desk: &mut Desk) -> Option<String> {
-    if is_there(alloc, &mut desk.store)? {
+    if is_there(alloc, &mut desk.store, NAME)? {
         return None;
     }
     match desk.store.fresh(alloc, NAME, &mut desk.watch) {
@@ -117,16 +92,4 @@ fn make(alloc: Global, desk: &mut Desk) -> Option<String> {
         }
         Err(fault) => store_fault(alloc, fault),
     }
-}
-
-// Whether the file is there, by a watch that nobody sees.
-fn is_there(alloc: Global, store: &mut MemStore) -> Option<bool>
-    ensures same { store_disks store.new ≡ store_disks store.old }
-    ensures there { IfSome result (λ is_there. is_there ≡ true → IfTold (store_disks store.old) (λ disk. IsThere (disk (Log 1)))) }
-    ensures absent { IfSome result (λ is_there. is_there ≡ false → IfTold (store_disks store.old) (λ disk. IsThere (disk (Log 1)) → ⊥)) }
-{
-    let names = store
-        .names(alloc, &mut MemWatch::new(Vec::new(alloc)))
-        .ok()?;
-    Some(names.contains(&NAME))
 }
