@@ -1,9 +1,10 @@
 //! Calls on a device that is in hand.
 
-use crate::answers::{done, fault, number, word};
 use crate::desk::Hand;
+use crate::faults::{done, fault};
 use std::alloc::Global;
 use tc_files::{FileDevice, FileStore, FileWatch};
+use tc_rows::{number, word};
 use tc_store::{Device, Kit, Store};
 
 /// What a call answers.

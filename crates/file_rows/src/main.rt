@@ -5,9 +5,9 @@
 //! with `#` is a note, and is printed as it is.
 #![tactic(auto)]
 
-mod answers;
 mod desk;
 mod devices;
+mod faults;
 mod others;
 mod shelves;
 mod still_files;
@@ -15,40 +15,40 @@ mod stores;
 
 use desk::{Desk, Hand};
 use std::alloc::Global;
-use std::fmt::Write;
 use std::{fs, io, mem};
+use tc_rows::{Answering, answer_calls, answer_rows, name_and_argument, push_counts};
 use tc_store::Watch;
 
 fn main(rt: HostRuntime) -> io::Result<()> {
-    for row in rt.lines(rt.alloc()) {
-        answer(rt, row?.as_str())?;
-    }
-    Ok(())
+    answer_rows(&rt, Folders)
 }
 
-fn answer(rt: HostRuntime, row: &str) -> io::Result<()> {
-    if row.starts_with('#') {
-        return println!(rt; "{row}");
+// Each row has a folder of its own.
+#[derive(Drop)]
+struct Folders;
+
+impl Answering<HostRuntime> for Folders {
+    fn answer(&mut self, rt: &HostRuntime, row: &str) -> Option<String> {
+        let _ = fs::remove_dir_all(rt, "row");
+        let answers = answers_of(*rt, row);
+        let _ = fs::remove_dir_all(rt, "row");
+        answers
     }
-    let _ = fs::remove_dir_all(&rt, "row");
-    let answers = answers_of(rt, row);
-    let _ = fs::remove_dir_all(&rt, "row");
-    match answers {
-        Some(answers) => println!(rt; "{}", answers.as_str()),
-        None => println!(rt; "no answer"),
+}
+
+impl Answering<HostRuntime> for Desk {
+    fn answer(&mut self, rt: &HostRuntime, call: &str) -> Option<String> {
+        let (name, argument) = name_and_argument(call);
+        answer_of(*rt, self, name, argument)
     }
 }
 
 // The answers of a row.
 fn answers_of(rt: HostRuntime, row: &str) -> Option<String> {
     let mut desk = Desk::new(rt, "row/files")?;
-    let mut answers = String::new(rt.alloc());
-    for call in row.split("; ") {
-        let answer = answer_of(rt, &mut desk, call)?;
-        write!(answers, "{}; ", answer.as_str()).ok()?;
-    }
+    let mut answers = answer_calls(&rt, &mut desk, row)?;
     let (faults, reads) = counts(&desk);
-    write!(answers, "faults {faults}, reads {reads}").ok()?;
+    push_counts(&mut answers, faults, reads)?;
     Some(answers)
 }
 
@@ -61,9 +61,8 @@ fn counts(desk: &Desk) -> (u64, u64) {
 }
 
 // The answer of a call.
-fn answer_of(rt: HostRuntime, desk: &mut Desk, call: &str) -> Option<String> {
+fn answer_of(rt: HostRuntime, desk: &mut Desk, name: &str, argument: &str) -> Option<String> {
     let alloc = rt.alloc();
-    let (name, argument) = call.split_once(' ').unwrap_or((call, ""));
     match name {
         "called" => others::called(alloc, argument),
         "put" => others::put(rt, argument),

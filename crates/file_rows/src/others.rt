@@ -1,10 +1,10 @@
 //! Names of files, and calls of std on files and folders.
 
-use crate::answers::word;
 use std::alloc::Global;
 use std::fs;
 use std::os::unix::fs::symlink;
 use tc_files::{file_text, name_in};
+use tc_rows::word;
 
 /// Which file is called so, and how that file is called.
 pub(crate) fn called(alloc: Global, text: &str) -> Option<String> {

@@ -1,8 +1,9 @@
 //! Calls on a shelf.
 
-use crate::answers::{fault, word};
 use crate::desk::{Desk, Hand};
+use crate::faults::fault;
 use std::alloc::Global;
+use tc_rows::word;
 use tc_store::Shelf;
 
 /// Another shelf, over this folder. Nothing is held of the one before.

@@ -1,10 +1,11 @@
 //! Calls on a still file that is in hand.
 
-use crate::answers::{done, fault, number, word};
 use crate::desk::Hand;
+use crate::faults::{done, fault};
 use std::alloc::Global;
 use std::str;
 use tc_files::{FileFrozen, FileStore, FileWatch};
+use tc_rows::{number, part_of, word};
 use tc_store::{Frozen, Kit, Store};
 
 /// What a call answers.
@@ -46,14 +47,8 @@ fn reading(
 
 // So many bytes from a place on, as text.
 fn read(alloc: Global, watch: &mut FileWatch, file: &FileFrozen, argument: &str) -> Option<String> {
-    let (at, count) = argument.split_once(' ')?;
-    let (at, count) = (at.parse::<u32>().ok()? as u64, count.parse::<u32>().ok()?);
-    if at + count as u64 > file.len() {
-        return None;
-    }
-    let mut bytes = vec![in alloc; 0u8; count as usize].ok()?;
-    match file.read(at, &mut bytes, watch) {
-        Ok(()) => text(alloc, &bytes),
+    match part_of(alloc, watch, file, argument)? {
+        Ok(bytes) => text(alloc, &bytes),
         Err(_) => fault(alloc, watch.last_error()),
     }
 }

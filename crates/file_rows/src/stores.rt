@@ -1,10 +1,11 @@
 //! Calls on a store.
 
-use crate::answers::{fault, word};
 use crate::desk::Hand;
+use crate::faults::fault;
 use std::alloc::Global;
 use std::fmt::Write;
 use tc_files::{FileStore, file_text, name_in};
+use tc_rows::word;
 use tc_store::{FileName, Kit, Store};
 
 /// What a call answers, with nothing in hand.

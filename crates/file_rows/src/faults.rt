@@ -1,18 +1,9 @@
-//! The short answers.
+//! Faults, as answers.
 
 use std::alloc::Global;
 use std::io;
 use tc_files::FileWatch;
-
-/// A number.
-pub(crate) fn number(alloc: Global, number: u64) -> Option<String> {
-    format!(in alloc; "{number}").ok()
-}
-
-/// A word.
-pub(crate) fn word(alloc: Global, word: &str) -> Option<String> {
-    String::from_str(alloc, word).ok()
-}
+use tc_rows::word;
 
 /// A fault, and of which kind the system's error was.
 pub(crate) fn fault(alloc: Global, error: Option<io::Error>) -> Option<String> {
