@@ -4,12 +4,12 @@ ghost use Rattle.std.specs.Prelude.{◌≡◌, false, IfSome, IsTrue};
 ghost use Rattle.tc_component.specs.Building.{IsWrittenRecord};
 ghost use Rattle.tc_store.specs.Memory.Device.{device_size};
 
-use crate::arguments::{bytes, device_fault, numbers, word};
 use crate::desk::{Desk, Hand, NAME};
 use std::alloc::Global;
 use tc_component::{Builder, Head};
 use tc_names::Names;
 use tc_record::{PACKED_FORM, RecordRef};
+use tc_rows::{bytes, device_answer, number_and_bytes, numbers, word};
 use tc_schema::Schema;
 use tc_store::{Broken, MemDevice, MemStore, MemWatch, Store};
 
@@ -48,7 +48,7 @@ pub(crate) fn answer_of(
     argument: &str,
 ) -> Option<String> {
     match name {
-        "push" => push(alloc, desk, good, entry(alloc, argument)),
+        "push" => push(alloc, desk, good, number_and_bytes(alloc, argument)),
         "fill" => push(alloc, desk, good, filled(alloc, argument)),
         "gone" => gone(alloc, desk, good, argument),
         "finish" => finish(alloc, desk, good, argument),
@@ -127,16 +127,9 @@ fn settled(
         }
         Err(Broken { device, cause }) => {
             desk.hold(Hand::Device(device));
-            device_fault(alloc, cause)
+            device_answer(alloc, Err(cause))
         }
     }
-}
-
-// A key and the bytes of its record.
-fn entry(alloc: Global, argument: &str) -> Option<(u64, Vec<u8>)> {
-    let (key, digits) = argument.split_once(' ')?;
-    let key = key.parse::<u64>().ok()?;
-    Some((key, bytes(alloc, digits)?))
 }
 
 // A key of one byte, and a record of one text: how many of this byte the text has, the bytes in front of it, and behind it

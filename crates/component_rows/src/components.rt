@@ -2,12 +2,13 @@
 
 ghost use Rattle.std.specs.Prelude.{◌<◌, length};
 
-use crate::arguments::{digits, read_fault, word};
 use crate::desk::{Desk, Hand};
+use crate::faults::read_fault;
 use std::alloc::Global;
 use std::fmt::Write;
 use tc_bytes::Bytes;
 use tc_component::{Component, Found};
+use tc_rows::{digits, word};
 use tc_store::{MemFrozen, MemWatch, ReadFault};
 
 /// What a call answers.

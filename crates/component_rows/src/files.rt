@@ -1,11 +1,12 @@
 //! Calls on a still file that is in hand.
 
-use crate::arguments::{digits, read_fault, word};
 use crate::components::shown;
 use crate::desk::{Desk, Hand};
+use crate::faults::read_fault;
 use std::alloc::Global;
 use tc_component::{Component, read_head};
-use tc_store::{FileName, Frozen, MemFrozen, MemWatch, ReadFault, bytes_of, is_open, whole_of};
+use tc_rows::{digits, gate, part_of, whole, word};
+use tc_store::{FileName, MemFrozen, MemWatch, ReadFault};
 
 /// What a call answers.
 pub(crate) fn answer_of(
@@ -37,7 +38,7 @@ fn asked(
         "head" => head(alloc, watch, file, file_name(argument)?),
         "gate" => gate(alloc, watch, file),
         "read" => read(alloc, watch, file, argument),
-        "show" => show(alloc, file),
+        "show" => whole(alloc, file),
         _ => None,
     }
 }
@@ -92,29 +93,10 @@ fn head(alloc: Global, watch: &mut MemWatch, file: &MemFrozen, name: FileName) -
     }
 }
 
-fn gate(alloc: Global, watch: &mut MemWatch, file: &MemFrozen) -> Option<String> {
-    match is_open(file, watch) {
-        Ok(is_open) => format!(in alloc; "{is_open}").ok(),
-        Err(_) => word(alloc, "fault"),
-    }
-}
-
 // So many bytes from a place on.
 fn read(alloc: Global, watch: &mut MemWatch, file: &MemFrozen, argument: &str) -> Option<String> {
-    let (at, count) = argument.split_once(' ')?;
-    let (at, count) = (at.parse::<u32>().ok()?, count.parse::<u32>().ok()?);
-    if u64::from(at) + u64::from(count) > file.len() {
-        return None;
-    }
-    match bytes_of(alloc, file, u64::from(at), count as usize, watch) {
+    match part_of(alloc, watch, file, argument)? {
         Ok(bytes) => digits(alloc, &bytes),
         Err(fault) => read_fault(alloc, fault),
     }
-}
-
-// All bytes, by a watch that nobody sees.
-fn show(alloc: Global, file: &MemFrozen) -> Option<String> {
-    let mut watch = MemWatch::new(Vec::new(alloc));
-    let bytes = whole_of(alloc, file, &mut watch).ok()?;
-    digits(alloc, &bytes)
 }

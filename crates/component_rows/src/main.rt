@@ -5,10 +5,10 @@
 //! stands for a row out of form. A row that begins with `#` is a note, and is printed as it is.
 #![tactic(auto)]
 
-mod arguments;
 mod builders;
 mod components;
 mod desk;
+mod faults;
 mod files;
 mod nesting;
 mod samples;
@@ -16,42 +16,36 @@ mod stores;
 
 use desk::Desk;
 use std::alloc::Global;
-use std::fmt::Write;
 use std::io;
+use tc_rows::{Answering, answer_calls, answer_rows, name_and_argument, push_counts};
 
 fn main(rt: HostRuntime) -> io::Result<()> {
-    for row in rt.lines(rt.alloc()) {
-        answer(&rt, row?.as_str())?;
-    }
-    Ok(())
+    answer_rows(&rt, Desks)
 }
 
-fn answer(rt: &(impl Print + AllocGlobal), row: &str) -> io::Result<()> {
-    if row.starts_with('#') {
-        return println!(rt; "{row}");
-    }
-    match answers_of(rt.alloc(), row) {
-        Some(answers) => println!(rt; "{}", answers.as_str()),
-        None => println!(rt; "no answer"),
+// Each row has a desk of its own.
+#[derive(Drop)]
+struct Desks;
+
+impl<R: AllocGlobal> Answering<R> for Desks {
+    fn answer(&mut self, rt: &R, row: &str) -> Option<String> {
+        let mut desk = Desk::empty(rt.alloc());
+        let mut answers = answer_calls(rt, &mut desk, row)?;
+        let (faults, reads) = desk.counts();
+        push_counts(&mut answers, faults, reads)?;
+        Some(answers)
     }
 }
 
-// The answers of a row.
-fn answers_of(alloc: Global, row: &str) -> Option<String> {
-    let mut desk = Desk::empty(alloc);
-    let mut answers = String::new(alloc);
-    for call in row.split("; ") {
-        let answer = answer_of(alloc, &mut desk, call)?;
-        write!(answers, "{}; ", answer.as_str()).ok()?;
+impl<R: AllocGlobal> Answering<R> for Desk {
+    fn answer(&mut self, rt: &R, call: &str) -> Option<String> {
+        let (name, argument) = name_and_argument(call);
+        answer_of(rt.alloc(), self, name, argument)
     }
-    let (faults, reads) = desk.counts();
-    write!(answers, "faults {faults}, reads {reads}").ok()?;
-    Some(answers)
 }
 
 // The answer of a call.
-fn answer_of(alloc: Global, desk: &mut Desk, call: &str) -> Option<String> {
-    let (name, argument) = call.split_once(' ').unwrap_or((call, ""));
+fn answer_of(alloc: Global, desk: &mut Desk, name: &str, argument: &str) -> Option<String> {
     let hand = desk.take_hand();
     hand.answer_of(alloc, desk, name, argument)
 }

@@ -1,7 +1,7 @@
 //! Components without entries whose schemas nest.
 
-use crate::arguments::bytes;
 use std::alloc::Global;
+use tc_rows::bytes;
 
 // The gate and the header of generation 1 of partition 0 of 1 up to the lengths of its sections: no records, no
 // entries, and 9 bytes of names.

@@ -4,15 +4,14 @@ ghost use Rattle.tc_store.specs.Disk.{IsAtRest};
 ghost use Rattle.tc_store.specs.Memory.Store.{store_disks};
 ghost use Rattle.tc_store.specs.Moments.{IfTold};
 
-use crate::arguments::{bytes, numbers, word};
 use crate::builders::begin;
 use crate::desk::{Desk, Hand, NAME};
 use crate::nesting::nested;
 use crate::samples::{EMPTY, PACKED, WORKED};
 use std::alloc::Global;
 use std::mem;
-use tc_bytes::Bytes;
-use tc_store::{MemDevice, MemFile, MemFrozen, MemStore, MemWatch, Store};
+use tc_rows::{bytes, failing, store_with, taken, word};
+use tc_store::{MemDevice, MemStore, Store};
 
 /// What a call answers, with nothing in hand.
 pub(crate) fn answer_of(
@@ -55,11 +54,6 @@ pub(crate) fn left_of(
     stop(alloc, desk, argument)
 }
 
-// A watch that fails the calls of these numbers.
-fn failing(alloc: Global, argument: &str) -> Option<MemWatch> {
-    Some(MemWatch::new(numbers(alloc, argument)?))
-}
-
 // The bytes of a worked component, or of these digits.
 fn sample(alloc: Global, argument: &str) -> Option<Vec<u8>> {
     match argument {
@@ -93,10 +87,8 @@ fn turned(alloc: Global, argument: &str) -> Option<Vec<u8>> {
 
 // A file at home, durable as it is, which is taken.
 fn home(alloc: Global, desk: &mut Desk, bytes: Vec<u8>) -> Option<String> {
-    let bytes = Bytes::of(bytes);
-    let mut files = Vec::new(alloc);
-    files.push(MemFile { name: NAME, bytes }).ok()?;
-    held(alloc, desk, MemStore::with(files))
+    let store = store_with(alloc, NAME, bytes).ok()?;
+    held(alloc, desk, store)
 }
 
 // A stop, and then the file is taken if it is there.
@@ -111,24 +103,12 @@ fn stop(alloc: Global, desk: &mut Desk, argument: &str) -> Option<String> {
 fn held(alloc: Global, desk: &mut Desk, store: MemStore) -> Option<String>
     requires { IfTold (store_disks store) IsAtRest }
 {
-    match file_of(alloc, store)? {
+    let mut store = store;
+    match taken(alloc, &mut store, NAME)? {
         Some(file) => {
             desk.hold(Hand::Still(file));
             word(alloc, "ok")
         }
         None => word(alloc, "absent"),
     }
-}
-
-// The file of a store at rest, if it is there, by a watch that nobody sees.
-fn file_of(alloc: Global, store: MemStore) -> Option<Option<MemFrozen>>
-    requires { IfTold (store_disks store) IsAtRest }
-{
-    let mut store = store;
-    let mut watch = MemWatch::new(Vec::new(alloc));
-    let names = store.names(alloc, &mut watch).ok()?;
-    if !names.contains(&NAME) {
-        return Some(None);
-    }
-    Some(Some(store.take(alloc, NAME, &mut watch).ok()?))
 }
