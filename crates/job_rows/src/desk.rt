@@ -1,11 +1,11 @@
 //! What a row works on: a table, the names and the schema below it, the calls that are to fail, and components.
 
-use crate::arguments::{numbers, word};
 use crate::lists::Shared;
 use std::alloc::Global;
 use std::mem;
 use tc_memory::Memtable;
 use tc_names::Names;
+use tc_rows::{failing, unfailing, word};
 use tc_schema::Schema;
 use tc_store::MemWatch;
 
@@ -42,14 +42,13 @@ impl Desk {
             schema: Schema::empty(alloc),
             table: Memtable::new(alloc),
             loaded: Vec::new(alloc),
-            watch: MemWatch::new(Vec::new(alloc)),
+            watch: unfailing(alloc),
         }
     }
 
     /// The device calls of these numbers are to fail.
     pub(crate) fn fails(&mut self, alloc: Global, argument: &str) -> Option<String> {
-        let failing = numbers(alloc, argument)?;
-        self.watch = MemWatch::new(failing);
+        self.watch = failing(alloc, argument)?;
         word(alloc, "ok")
     }
 
@@ -58,6 +57,6 @@ impl Desk {
     }
 
     pub(crate) fn take_watch(&mut self, alloc: Global) -> MemWatch {
-        mem::replace(&mut self.watch, MemWatch::new(Vec::new(alloc)))
+        mem::replace(&mut self.watch, unfailing(alloc))
     }
 }

@@ -3,7 +3,6 @@
 ghost use Rattle.std.specs.Prelude.{◌≡◌};
 ghost use Rattle.tc_store.specs.Memory.Device.{device_size};
 
-use crate::arguments::{numbers, word};
 use crate::desk::Desk;
 use crate::stores::{begun, left_of};
 use std::alloc::Global;
@@ -11,7 +10,8 @@ use std::sync::Arc;
 use tc_component::Head;
 use tc_flush::{FlushJob, FlushOut, FlushParts, counted};
 use tc_memory::Sealed;
-use tc_store::{DeviceFault, MemDevice, MemStore, MemWatch, Store, StoreFault, Watch};
+use tc_rows::{device_answer, numbers, word};
+use tc_store::{MemDevice, MemStore, MemWatch, Store, StoreFault, Watch};
 
 /// The flush of the table: the number of its partition, how many there are, its generations, and what a stop behind it
 /// chooses.
@@ -87,22 +87,15 @@ fn ran(alloc: Global, store: MemStore, job: FlushJob<MemStore>, choice: u64) -> 
     } = job.run(alloc);
     let mut store = store;
     store.abandon(device);
-    let outcome = outcome_word(outcome)?;
+    let outcome = device_answer(alloc, outcome)?;
     let (faults, next) = counts(alloc, &mut store, watch)?;
     let left = left_of(alloc, store, choice)?;
     format!(in alloc;
-        "{outcome}, faults {faults}, next {next}, {}",
+        "{}, faults {faults}, next {next}, {}",
+        outcome.as_str(),
         left.as_str()
     )
     .ok()
-}
-
-fn outcome_word(outcome: Result<(), DeviceFault>) -> Option<&'static str> {
-    match outcome {
-        Ok(()) => Some("ok"),
-        Err(DeviceFault::Fault) => Some("fault"),
-        Err(DeviceFault::Memory) => None,
-    }
 }
 
 /// How many calls failed, and what one more answers.

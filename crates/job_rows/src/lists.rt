@@ -3,13 +3,13 @@
 ghost use Rattle.std.specs.Arc.{arc_value};
 ghost use Rattle.std.specs.Prelude.{◌≡◌, ◌+◌, [], ◌∷◌, IfSome, IsTrue};
 
-use crate::arguments::{bytes, numbers, word};
 use crate::stores::component_of;
 use std::alloc::Global;
 use std::fmt::Write;
 use std::sync::Arc;
 use tc_component::Component;
 use tc_list::{ComponentList, Run, Whereabouts};
+use tc_rows::{bytes, numbers, word};
 use tc_store::MemFrozen;
 
 /// A component that several hold.

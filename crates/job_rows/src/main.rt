@@ -5,7 +5,7 @@
 //! is printed as it is.
 #![tactic(auto)]
 
-mod arguments;
+mod answers;
 mod desk;
 mod flushes;
 mod lists;
@@ -16,40 +16,33 @@ mod tables;
 
 use desk::Desk;
 use std::alloc::Global;
-use std::fmt::Write;
 use std::io;
+use tc_rows::{Answering, answer_calls, answer_rows, name_and_argument};
 
 fn main(rt: HostRuntime) -> io::Result<()> {
-    for row in rt.lines(rt.alloc()) {
-        answer(&rt, row?.as_str())?;
-    }
-    Ok(())
+    answer_rows(&rt, Desks)
 }
 
-fn answer(rt: &(impl Print + AllocGlobal), row: &str) -> io::Result<()> {
-    if row.starts_with('#') {
-        return println!(rt; "{row}");
-    }
-    match answers_of(rt.alloc(), row) {
-        Some(answers) => println!(rt; "{}", answers.as_str()),
-        None => println!(rt; "no answer"),
+// Each row has a desk of its own.
+#[derive(Drop)]
+struct Desks;
+
+impl<R: AllocGlobal> Answering<R> for Desks {
+    fn answer(&mut self, rt: &R, row: &str) -> Option<String> {
+        let mut desk = Desk::empty(rt.alloc());
+        answer_calls(rt, &mut desk, row)
     }
 }
 
-// The answers of a row.
-fn answers_of(alloc: Global, row: &str) -> Option<String> {
-    let mut desk = Desk::empty(alloc);
-    let mut answers = String::new(alloc);
-    for call in row.split("; ") {
-        let answer = answer_of(alloc, &mut desk, call)?;
-        write!(answers, "{}; ", answer.as_str()).ok()?;
+impl<R: AllocGlobal> Answering<R> for Desk {
+    fn answer(&mut self, rt: &R, call: &str) -> Option<String> {
+        let (name, argument) = name_and_argument(call);
+        answer_of(rt.alloc(), self, name, argument)
     }
-    Some(answers)
 }
 
 // The answer of a call.
-fn answer_of(alloc: Global, desk: &mut Desk, call: &str) -> Option<String> {
-    let (name, argument) = call.split_once(' ').unwrap_or((call, ""));
+fn answer_of(alloc: Global, desk: &mut Desk, name: &str, argument: &str) -> Option<String> {
     match name {
         "below" => tables::below(alloc, desk, argument),
         "put" => tables::put(alloc, &mut desk.table, argument),

@@ -3,7 +3,7 @@
 ghost use Rattle.std.specs.Prelude.{◌≡◌};
 ghost use Rattle.tc_store.specs.Memory.Device.{device_size};
 
-use crate::arguments::{shown, word};
+use crate::answers::shown;
 use crate::desk::Desk;
 use crate::flushes::{asked, counts};
 use crate::lists::Shared;
@@ -13,6 +13,7 @@ use std::sync::Arc;
 use tc_bytes::Bytes;
 use tc_component::Head;
 use tc_merge::{MergeFault, MergeJob, MergeOut, MergeParts, can_merge};
+use tc_rows::word;
 use tc_store::{FileName, MemDevice, MemStore, Store, Watch};
 
 /// The merge of the loaded components: the number of their partition, how many there are, the generations of the merged

@@ -1,8 +1,8 @@
 //! Which components a policy picks.
 
-use crate::arguments::{numbers, word};
 use std::alloc::Global;
 use tc_list::Policy;
+use tc_rows::{numbers, word};
 
 /// What `Constant` picks: its number, and the sizes of the listed components.
 pub(crate) fn constant(alloc: Global, argument: &str) -> Option<String> {

@@ -1,6 +1,5 @@
 //! Calls on a memory table, and on what it stands over.
 
-use crate::arguments::{bytes, word};
 use crate::desk::Desk;
 use std::alloc::Global;
 use tc_bytes::Bytes;
@@ -8,6 +7,7 @@ use tc_compact::shape_of;
 use tc_memory::Memtable;
 use tc_names::Names;
 use tc_record::{RecordRef, is_stored_record};
+use tc_rows::{bytes, word};
 use tc_schema::Schema;
 use tc_value::Shape;
 
