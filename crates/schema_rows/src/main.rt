@@ -18,8 +18,9 @@ use kept::Kept;
 use no_answer::NoAnswer;
 use serde_json::Value;
 use std::alloc::Global;
-use std::io;
+use std::{io, mem};
 use tc_json::doc_of;
+use tc_rows::{Answering, answer_rows, name_and_argument};
 use tc_value::Doc;
 
 // So deep do the values of a random document nest, at most.
@@ -29,32 +30,25 @@ const DEPTH: u32 = 3;
 const STRIDE: u64 = 50;
 
 fn main(rt: HostRuntime) -> io::Result<()> {
-    let mut kept = Kept::none(rt.alloc());
-    for row in rt.lines(rt.alloc()) {
-        kept = answer(&rt, kept, row?.as_str())?;
-    }
-    Ok(())
+    answer_rows(&rt, Kept::none(rt.alloc()))
 }
 
-fn answer(rt: &(impl Print + AllocGlobal), kept: Kept, row: &str) -> io::Result<Kept> {
-    if row.starts_with('#') {
-        println!(rt; "{row}")?;
-        return Ok(kept);
-    }
-    match answer_of(rt.alloc(), kept, row) {
-        Ok((kept, answer)) => {
-            println!(rt; "{}", answer.as_str())?;
-            Ok(kept)
-        }
-        Err(NoAnswer) => {
-            println!(rt; "no answer")?;
-            Ok(Kept::none(rt.alloc()))
+impl<R: AllocGlobal> Answering<R> for Kept {
+    fn answer(&mut self, rt: &R, row: &str) -> Option<String> {
+        let alloc = rt.alloc();
+        let kept = mem::replace(self, Kept::none(alloc));
+        match answer_of(alloc, kept, row) {
+            Ok((kept, answer)) => {
+                *self = kept;
+                Some(answer)
+            }
+            Err(NoAnswer) => None,
         }
     }
 }
 
 fn answer_of(alloc: Global, kept: Kept, row: &str) -> Result<(Kept, String), NoAnswer> {
-    let (call, argument) = row.split_once(' ').unwrap_or((row, ""));
+    let (call, argument) = name_and_argument(row);
     match call {
         "none" => shown(alloc, Kept::none(alloc)),
         "add" => shown(alloc, kept.with(alloc, document(alloc, argument)?)?),
