@@ -7,7 +7,7 @@ ghost use Rattle.tc_store.specs.DiskFile.{IsSettled};
 ghost use Rattle.tc_store.specs.Memory.Device.{device_files};
 ghost use Rattle.tc_store.specs.Moments.{IfTold};
 
-use crate::arguments::{bytes, job_outcome, numbers, push_name, word};
+use crate::faults::{job_outcome, push_name};
 use crate::files::push_files;
 use crate::making::settled_file;
 use std::alloc::Global;
@@ -24,6 +24,7 @@ use tc_log::MAX_NUMBER;
 use tc_memory::{Memtable, Sealed};
 use tc_names::Names;
 use tc_record::RecordRef;
+use tc_rows::{bytes, number_and_bytes, numbers, word};
 use tc_store::{FileName, MemDevice, MemFrozen, MemStore, MemWatch, Watch};
 
 /// The store and the components of a row. Files are made without a fault; the watch is of the calls that list and remove.
@@ -98,9 +99,8 @@ impl Bench {
 
     /// What the flush of a table begins with that takes a key out: the key, and the record of the document below it.
     pub(crate) fn inputs(&self, alloc: Global, argument: &str) -> Option<String> {
-        let (key, digits) = argument.split_once(' ')?;
-        let below = bytes(alloc, digits)?;
-        let sealed = table_without(alloc, key.parse::<u64>().ok()?, &below)?;
+        let (key, below) = number_and_bytes(alloc, argument)?;
+        let sealed = table_without(alloc, key, &below)?;
         match flush_inputs(alloc, &sealed, &self.list) {
             Ok(inputs) => inputs_text(alloc, &inputs),
             Err(fault) => job_outcome(alloc, Err(fault)),
@@ -109,9 +109,7 @@ impl Bench {
 
     /// Removes a log that a component covers: its generation, and the bytes of its file.
     pub(crate) fn uncover(&mut self, alloc: Global, argument: &str) -> Option<String> {
-        let (generation, digits) = argument.split_once(' ')?;
-        let generation = generation.parse::<u64>().ok()?;
-        let bytes = bytes(alloc, digits)?;
+        let (generation, bytes) = number_and_bytes(alloc, argument)?;
         let name = FileName::Log { generation };
         let device = settled_file(alloc, &mut self.store, name, &bytes)?;
         let removed = remove_file(alloc, &mut self.store, device, &mut self.watch);

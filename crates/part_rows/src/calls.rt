@@ -3,7 +3,6 @@
 ghost use Rattle.std.specs.Prelude.{IfSome};
 ghost use Rattle.part_rows.specs.Waiting.{IsShortWrite};
 
-use crate::arguments::{bytes, numbers};
 use crate::desk::Desk;
 use std::alloc::Global;
 use tc_bytes::Bytes;
@@ -11,6 +10,7 @@ use tc_command::{Command, parse};
 use tc_list::Run;
 use tc_log::{MAX_NUMBER, Write};
 use tc_record::is_stored_record;
+use tc_rows::{number_and_bytes, numbers};
 
 // The bytes of a record, at most.
 const MOST: usize = 65_536;
@@ -49,9 +49,7 @@ pub(crate) fn merge(alloc: Global, desk: &mut Desk, argument: &str) -> Option<St
 fn upsert(alloc: Global, argument: &str) -> Option<Write>
     ensures { IfSome result IsShortWrite }
 {
-    let (key, digits) = argument.split_once(' ')?;
-    let key = key.parse::<u64>().ok()?;
-    let bytes = bytes(alloc, digits)?;
+    let (key, bytes) = number_and_bytes(alloc, argument)?;
     if key > MAX_NUMBER || bytes.len() > MOST || !is_stored_record(&bytes) {
         return None;
     }

@@ -2,8 +2,7 @@
 
 ghost use Rattle.std.specs.Prelude.{◌≡◌};
 
-use crate::arguments::{fault_word, word};
-use crate::first_logs::unfailing;
+use crate::faults::fault_word;
 use crate::laid::Laid;
 use crate::steps;
 use std::alloc::Global;
@@ -15,6 +14,7 @@ use tc_command::{Ask, Reply, Rows, put_line};
 use tc_list::{ComponentList, Run};
 use tc_log::Write;
 use tc_part::{Limits, Opened, Part, PartFault, Staged};
+use tc_rows::{unfailing, word};
 use tc_store::{Kit, MemFrozen, MemStore, MemWatch};
 
 // The writes of one frame, at most.

@@ -11,12 +11,8 @@ ghost use Rattle.tc_store.specs.Memory.Store.{store_disks};
 
 use std::alloc::Global;
 use tc_log::{Log, LogHead};
-use tc_store::{FileName, MemDevice, MemStore, MemWatch, Store};
-
-/// A watch that fails nothing.
-pub(crate) fn unfailing(alloc: Global) -> MemWatch {
-    MemWatch::new(Vec::new(alloc))
-}
+use tc_rows::unfailing;
+use tc_store::{FileName, MemDevice, MemStore, Store};
 
 /// A store with no file but the first log of partition 0 of 1, and that log, which has no frame.
 pub(crate) fn first_log(alloc: Global) -> Option<(MemStore, Log<MemDevice>)>

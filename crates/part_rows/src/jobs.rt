@@ -1,18 +1,14 @@
 //! Rows of what the jobs of a partition begin and end with.
 
-use crate::arguments::numbers;
 use crate::bench::Bench;
 use std::alloc::Global;
-use std::fmt::Write;
+use tc_rows::{Answering, answer_calls, numbers};
 
 /// The answers of a row that begins so, and has these calls.
-pub(crate) fn answers_of(alloc: Global, begin: &str, calls: &str) -> Option<String> {
+pub(crate) fn answers_of<R: AllocGlobal>(rt: &R, begin: &str, calls: &str) -> Option<String> {
+    let alloc = rt.alloc();
     let mut bench = Bench::begun(alloc, failing_in(alloc, begin)?);
-    let mut answers = String::new(alloc);
-    for call in calls.split("; ") {
-        let answer = answer_of(alloc, &mut bench, call)?;
-        write!(answers, "{}; ", answer.as_str()).ok()?;
-    }
+    let mut answers = answer_calls(rt, &mut bench, calls)?;
     bench.end(alloc, &mut answers)?;
     Some(answers)
 }
@@ -26,15 +22,17 @@ fn failing_in(alloc: Global, begin: &str) -> Option<Vec<u64>> {
     numbers(alloc, failing.strip_prefix(" ")?)
 }
 
-// The answer of a call.
-fn answer_of(alloc: Global, bench: &mut Bench, call: &str) -> Option<String> {
-    let (name, argument) = call.split_once(' ')?;
-    match name {
-        "list" => bench.list(alloc, argument),
-        "place" => bench.place(alloc, argument),
-        "share" => bench.share(alloc, argument),
-        "inputs" => bench.inputs(alloc, argument),
-        "uncover" => bench.uncover(alloc, argument),
-        _ => None,
+impl<R: AllocGlobal> Answering<R> for Bench {
+    fn answer(&mut self, rt: &R, call: &str) -> Option<String> {
+        let alloc = rt.alloc();
+        let (name, argument) = call.split_once(' ')?;
+        match name {
+            "list" => self.list(alloc, argument),
+            "place" => self.place(alloc, argument),
+            "share" => self.share(alloc, argument),
+            "inputs" => self.inputs(alloc, argument),
+            "uncover" => self.uncover(alloc, argument),
+            _ => None,
+        }
     }
 }

@@ -14,16 +14,16 @@ ghost use Rattle.tc_store.specs.Memory.Frozen.{frozen_content, frozen_name};
 ghost use Rattle.tc_store.specs.Memory.Store.{store_disks};
 ghost use Rattle.part_rows.specs.Laying.{IsLaid};
 
-use crate::first_logs::{first_log, unfailing};
+use crate::first_logs::first_log;
 use crate::making::fresh_file;
 use std::alloc::Global;
 use std::sync::Arc;
-use tc_bytes::Bytes;
 use tc_component::Component;
 use tc_jobs::goes_behind;
 use tc_list::ComponentList;
 use tc_log::{Log, LogHead, MAX_NUMBER};
-use tc_store::{FileName, MemDevice, MemFile, MemFrozen, MemStore, Store};
+use tc_rows::{store_with, taken, unfailing};
+use tc_store::{FileName, MemDevice, MemFrozen, MemStore};
 
 /// A store, what is listed in it, and the log behind that, which has no frame.
 #[derive(Drop)]
@@ -63,7 +63,8 @@ pub(crate) fn laid_over(alloc: Global, to: u64, bytes: Vec<u8>) -> Option<Laid>
         return None;
     }
     let name = FileName::Component { from: 1, to };
-    let (store, file) = taken(alloc, name, bytes)?;
+    let mut store = store_with(alloc, name, bytes).ok()?;
+    let file = taken(alloc, &mut store, name)??;
     let list = list_of(alloc, file, to)?;
     let (store, log) = next_log(alloc, store, to)?;
     laid_behind_one(store, list, log, to)
@@ -88,23 +89,6 @@ fn laid_behind_one(
         return None;
     }
     Some(Laid { store, list, log })
-}
-
-// A store with one file, which is taken.
-fn taken(alloc: Global, name: FileName, bytes: Vec<u8>) -> Option<(MemStore, MemFrozen)>
-    ensures name { IfSome result (λ made. frozen_name made.1 ≡ name) }
-{
-    let bytes = Bytes::of(bytes);
-    let mut files = Vec::new(alloc);
-    files.push(MemFile { name, bytes }).ok()?;
-    let mut store = MemStore::with(files);
-    let mut watch = unfailing(alloc);
-    let names = store.names(alloc, &mut watch).ok()?;
-    if !names.contains(&name) {
-        return None;
-    }
-    let file = store.take(alloc, name, &mut watch).ok()?;
-    Some((store, file))
 }
 
 // The component of a file alone, if it is one of partition 0 of 1.

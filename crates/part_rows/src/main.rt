@@ -15,10 +15,10 @@
 //! as it is.
 #![tactic(auto)]
 
-mod arguments;
 mod bench;
 mod calls;
 mod desk;
+mod faults;
 mod files;
 mod first_logs;
 mod jobs;
@@ -27,60 +27,50 @@ mod making;
 mod openings;
 mod steps;
 
-use arguments::{bytes, numbers};
 use desk::{Desk, Watches};
-use first_logs::unfailing;
 use laid::{laid_first, laid_over};
 use std::alloc::Global;
-use std::fmt::Write;
 use std::io;
 use tc_part::Limits;
+use tc_rows::{
+    Answering, answer_calls, answer_rows, failing, name_and_argument, number_and_bytes, numbers,
+    unfailing,
+};
 use tc_store::MemWatch;
 
 // How many bytes of log make a table be sealed. Nothing here seals one by itself.
 pub(crate) const MEMORY: u64 = 4096;
 
 fn main(rt: HostRuntime) -> io::Result<()> {
-    for row in rt.lines(rt.alloc()) {
-        answer(&rt, row?.as_str())?;
-    }
-    Ok(())
+    answer_rows(&rt, Partitions)
 }
 
-fn answer(rt: &(impl Print + AllocGlobal), row: &str) -> io::Result<()> {
-    if row.starts_with('#') {
-        return println!(rt; "{row}");
-    }
-    match answers_of(rt.alloc(), row) {
-        Some(answers) => println!(rt; "{}", answers.as_str()),
-        None => println!(rt; "no answer"),
-    }
-}
+// Each row has a partition of its own.
+#[derive(Drop)]
+struct Partitions;
 
-// The answers of a row.
-fn answers_of(alloc: Global, row: &str) -> Option<String> {
-    if let Some(opening) = row.strip_prefix("open ") {
-        return openings::answer_of(alloc, opening);
+impl<R: AllocGlobal> Answering<R> for Partitions {
+    fn answer(&mut self, rt: &R, row: &str) -> Option<String> {
+        if let Some(opening) = row.strip_prefix("open ") {
+            return openings::answer_of(rt.alloc(), opening);
+        }
+        if let Some(opening) = row.strip_prefix("calls ") {
+            return openings::calls_of(rt.alloc(), opening);
+        }
+        let (begin, calls) = row.split_once("; ")?;
+        if begin.starts_with("jobs") {
+            return jobs::answers_of(rt, begin, calls);
+        }
+        answers_of_part(rt, begin, calls)
     }
-    if let Some(opening) = row.strip_prefix("calls ") {
-        return openings::calls_of(alloc, opening);
-    }
-    let (begin, calls) = row.split_once("; ")?;
-    if begin.starts_with("jobs") {
-        return jobs::answers_of(alloc, begin, calls);
-    }
-    answers_of_part(alloc, begin, calls)
 }
 
 // The answers of a row of a partition.
-fn answers_of_part(alloc: Global, begin: &str, calls: &str) -> Option<String> {
+fn answers_of_part<R: AllocGlobal>(rt: &R, begin: &str, calls: &str) -> Option<String> {
+    let alloc = rt.alloc();
     let (desk, choice) = begun(alloc, begin)?;
     let mut desk = desk;
-    let mut answers = String::new(alloc);
-    for call in calls.split("; ") {
-        let answer = answer_of(alloc, &mut desk, call)?;
-        write!(answers, "{}; ", answer.as_str()).ok()?;
-    }
+    let mut answers = answer_calls(rt, &mut desk, calls)?;
     files::push_left(alloc, &mut answers, desk.close(), choice)?;
     Some(answers)
 }
@@ -116,9 +106,9 @@ fn parted<'a>(text: &'a str, word: &str) -> (&'a str, Option<&'a str>) {
 }
 
 // A watch that fails the calls of these numbers.
-fn watch_of(alloc: Global, failing: Option<&str>) -> Option<MemWatch> {
-    match failing {
-        Some(failing) => Some(MemWatch::new(numbers(alloc, failing)?)),
+fn watch_of(alloc: Global, numbers: Option<&str>) -> Option<MemWatch> {
+    match numbers {
+        Some(numbers) => failing(alloc, numbers),
         None => Some(unfailing(alloc)),
     }
 }
@@ -132,31 +122,33 @@ fn desk_of(
 ) -> Option<Desk> {
     match component {
         Some(component) => {
-            let (to, digits) = component.split_once(' ')?;
-            let laid = laid_over(alloc, to.parse::<u64>().ok()?, bytes(alloc, digits)?)?;
+            let (to, bytes) = number_and_bytes(alloc, component)?;
+            let laid = laid_over(alloc, to, bytes)?;
             Desk::over(alloc, limits, watches, laid, false)
         }
         None => Desk::over(alloc, limits, watches, laid_first(alloc)?, true),
     }
 }
 
-// The answer of a call.
-fn answer_of(alloc: Global, desk: &mut Desk, call: &str) -> Option<String> {
-    let (name, argument) = call.split_once(' ').unwrap_or((call, ""));
-    match name {
-        "put" => calls::put(alloc, desk, argument),
-        "delete" => calls::delete(alloc, desk, argument),
-        "get" => desk.get(alloc, argument.parse::<u64>().ok()?),
-        "query" => calls::query(alloc, desk, argument),
-        "commit" => desk.commit(alloc),
-        "seal" => desk.seal(alloc),
-        "flush" => desk.flush(alloc),
-        "merge" => calls::merge(alloc, desk, argument),
-        "share" => desk.share(alloc),
-        "forget" => desk.forget(alloc),
-        "sweep" => desk.sweep(alloc),
-        "tell" => desk.tell(alloc),
-        "schema" => desk.schema(alloc),
-        _ => None,
+impl<R: AllocGlobal> Answering<R> for Desk {
+    fn answer(&mut self, rt: &R, call: &str) -> Option<String> {
+        let alloc = rt.alloc();
+        let (name, argument) = name_and_argument(call);
+        match name {
+            "put" => calls::put(alloc, self, argument),
+            "delete" => calls::delete(alloc, self, argument),
+            "get" => self.get(alloc, argument.parse::<u64>().ok()?),
+            "query" => calls::query(alloc, self, argument),
+            "commit" => self.commit(alloc),
+            "seal" => self.seal(alloc),
+            "flush" => self.flush(alloc),
+            "merge" => calls::merge(alloc, self, argument),
+            "share" => self.share(alloc),
+            "forget" => self.forget(alloc),
+            "sweep" => self.sweep(alloc),
+            "tell" => self.tell(alloc),
+            "schema" => self.schema(alloc),
+            _ => None,
+        }
     }
 }

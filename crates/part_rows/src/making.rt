@@ -5,8 +5,8 @@ ghost use Rattle.tc_store.specs.DiskFile.{IsSettled};
 ghost use Rattle.tc_store.specs.Memory.Device.{device_files, device_name, device_size};
 ghost use Rattle.tc_store.specs.Moments.{IfTold};
 
-use crate::first_logs::unfailing;
 use std::alloc::Global;
+use tc_rows::{is_there, unfailing};
 use tc_store::{Device, FileName, MemDevice, MemStore, Store};
 
 /// An empty file, unless the name is taken.
@@ -14,12 +14,10 @@ pub(crate) fn fresh_file(alloc: Global, store: &mut MemStore, name: FileName) ->
     ensures name { IfSome result (λ device. device_name device ≡ name) }
     ensures empty { IfSome result (λ device. device_size device ≡ 0) }
 {
-    let mut watch = unfailing(alloc);
-    let names = store.names(alloc, &mut watch).ok()?;
-    if names.contains(&name) {
+    if is_there(alloc, store, name)? {
         return None;
     }
-    store.fresh(alloc, name, &mut watch).ok()
+    store.fresh(alloc, name, &mut unfailing(alloc)).ok()
 }
 
 /// A file of these bytes, on which nothing is pending, unless the name is taken.

@@ -5,14 +5,14 @@ ghost use Rattle.tc_store.specs.Memory.Store.{store_disks};
 ghost use Rattle.tc_store.specs.Moments.{IfTold};
 
 use crate::MEMORY;
-use crate::arguments::{bytes, damage_text, numbers, push_name, word};
+use crate::faults::{damage_text, push_name};
 use crate::files::push_files;
-use crate::first_logs::unfailing;
 use std::alloc::Global;
 use std::fmt::Write;
 use tc_bytes::Bytes;
 use tc_open::{OpenCause, open_part};
 use tc_part::Limits;
+use tc_rows::{bytes, kit_over, numbers, unfailing, word};
 use tc_store::{FileName, Kit, MemFile, MemStore, MemWatch, Store};
 
 // What no opening here comes near.
@@ -90,13 +90,9 @@ fn is_disk(cause: OpenCause) -> bool {
 fn kit_of(alloc: Global, files: Vec<MemFile>, failing: Vec<u64>) -> Kit<MemStore>
     ensures { IfTold (store_disks result.store) IsAtRest }
 {
-    Kit {
-        store: MemStore::with(files),
-        main: MemWatch::new(failing),
-        flusher: unfailing(alloc),
-        merger: unfailing(alloc),
-        reader: unfailing(alloc),
-    }
+    let mut kit = kit_over(alloc, MemStore::with(files));
+    kit.main = MemWatch::new(failing);
+    kit
 }
 
 // What stands before the files of a row, and the files.

@@ -1,34 +1,11 @@
-//! The arguments of calls, and the short answers.
+//! Names of files and faults, as answers.
 
 use std::alloc::Global;
 use std::fmt::Write;
 use tc_jobs::JobFault;
 use tc_part::PartFault;
+use tc_rows::word;
 use tc_store::{Damage, FileName};
-
-/// Numbers, between two of them a space.
-pub(crate) fn numbers(alloc: Global, argument: &str) -> Option<Vec<u64>> {
-    let mut numbers = Vec::new(alloc);
-    for word in argument.split(' ') {
-        numbers.push(word.parse::<u64>().ok()?).ok()?;
-    }
-    Some(numbers)
-}
-
-/// Bytes in hexadecimal digits.
-pub(crate) fn bytes(alloc: Global, digits: &str) -> Option<Vec<u8>> {
-    hex::decode(alloc, digits.as_bytes()).ok()
-}
-
-/// Bytes, as an answer.
-pub(crate) fn shown(alloc: Global, bytes: &[u8]) -> Option<String> {
-    hex::encode(alloc, bytes).ok()
-}
-
-/// A word, as an answer.
-pub(crate) fn word(alloc: Global, word: &str) -> Option<String> {
-    String::from_str(alloc, word).ok()
-}
 
 /// A fault, as an answer. Want of memory is none.
 pub(crate) fn fault_word(alloc: Global, fault: PartFault) -> Option<String> {
@@ -56,7 +33,7 @@ pub(crate) fn damage_text(alloc: Global, damage: Damage) -> Option<String> {
         Damage::Bytes { file, place, bytes } => {
             let mut text = word(alloc, "damaged")?;
             push_name(&mut text, file)?;
-            let bytes = shown(alloc, bytes.as_slice())?;
+            let bytes = hex::encode(alloc, bytes.as_slice()).ok()?;
             write!(text, " at {place} {}", bytes.as_str()).ok()?;
             Some(text)
         }

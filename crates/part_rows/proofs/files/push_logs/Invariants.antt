@@ -1,7 +1,0 @@
-use Rattle.tc_store.specs.Disk.{IsAtRest}
-use Rattle.tc_store.specs.Memory.Store.{store_disks}
-use Rattle.tc_store.specs.Moments.{IfTold}
-use Rattle.part_rows.proofs.files.push_logs.Given as goal
-
-abbrev pub invariant-loop-generation : goal.invariant-loop-generation
-invariant-loop-generation l = IfTold (store_disks l.store) IsAtRest
