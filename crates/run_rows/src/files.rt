@@ -1,7 +1,7 @@
 //! The files of a partition that a run is over, and those that it leaves.
 
-ghost use Rattle.std.specs.Prelude.{IfOk, IfSome};
-ghost use Rattle.tc_store.specs.Disk.{IsAtRest, IsThere};
+ghost use Rattle.std.specs.Prelude.{IfSome};
+ghost use Rattle.tc_store.specs.Disk.{IsAtRest};
 ghost use Rattle.tc_store.specs.Memory.Store.{store_disks};
 ghost use Rattle.tc_store.specs.Moments.{IfTold};
 
@@ -10,7 +10,8 @@ use std::fmt::Write;
 use std::mem;
 use tc_bytes::Bytes;
 use tc_files::{file_text, name_in};
-use tc_store::{FileName, Kit, MemFile, MemStore, MemWatch, Store, whole_of};
+use tc_rows::{bytes, files_in, word};
+use tc_store::{Kit, MemFile, MemStore, MemWatch};
 
 /// The files of the next run, or by which choice a stop makes them of those that the last run left, and the numbers of the
 /// calls on them that fail.
@@ -49,7 +50,7 @@ impl Files {
     pub(crate) fn give(&mut self, alloc: Global, argument: &str) -> Option<()> {
         let (name, digits) = argument.split_once(' ')?;
         let name = name_in(name)?;
-        let bytes = Bytes::of(hex::decode(alloc, digits.as_bytes()).ok()?);
+        let bytes = Bytes::of(bytes(alloc, digits)?);
         self.given.push(MemFile { name, bytes }).ok()
     }
 
@@ -105,10 +106,11 @@ impl Files {
     /// A line for each file that a stop leaves of the last run's, chosen by a number: components first, by generation. From
     /// then on it is these that the last run left.
     pub(crate) fn shown(&mut self, alloc: Global, argument: &str) -> Option<String> {
-        let mut text = String::new(alloc);
         let store = self.stopped(alloc, argument.parse::<u64>().ok()?)?;
-        self.left = push_files(alloc, &mut text, store)?;
-        Some(text)
+        let files = files_in(alloc, store)?;
+        let text = files_text(alloc, &files);
+        self.left = MemStore::with(files);
+        text
     }
 }
 
@@ -124,49 +126,16 @@ fn watch_of(alloc: Global, failing: &mut Vec<u64>) -> MemWatch {
     MemWatch::new(mem::replace(failing, Vec::new(alloc)))
 }
 
-fn push_files(alloc: Global, text: &mut String, store: MemStore) -> Option<MemStore>
-    requires at_rest { IfTold (store_disks store) IsAtRest }
-{
-    let mut store = store;
-    let mut names = store
-        .names(alloc, &mut MemWatch::new(Vec::new(alloc)))
-        .ok()?;
-    names.sort().ok()?;
-    push_named(alloc, text, store, names.as_slice())
-}
-
-fn push_named(
-    alloc: Global,
-    text: &mut String,
-    store: MemStore,
-    names: &[FileName],
-) -> Option<MemStore>
-    requires at_rest { IfTold (store_disks store) IsAtRest }
-{
-    if names.is_empty() {
-        text.push_str("no file\n").ok()?;
+// A line for each file.
+fn files_text(alloc: Global, files: &[MemFile]) -> Option<String> {
+    if files.is_empty() {
+        return word(alloc, "no file\n");
     }
-    let mut store = store;
-    for name in names {
-        store = push_file(alloc, text, store, *name)?;
-    }
-    Some(store)
-}
-
-// A file, if it is there. The files that are left are at rest again.
-fn push_file(alloc: Global, text: &mut String, store: MemStore, name: FileName) -> Option<MemStore>
-    requires at_rest { IfTold (store_disks store) IsAtRest }
-    ensures at_rest { IfSome result (λ left. IfTold (store_disks left) IsAtRest) }
-{
-    let mut store = store;
-    let mut watch = MemWatch::new(Vec::new(alloc));
-    let names = store.names(alloc, &mut watch).ok()?;
-    if names.contains(&name) {
-        let file = store.take(alloc, name, &mut watch).ok()?;
-        let bytes = whole_of(alloc, &file, &mut watch).ok()?;
-        let digits = hex::encode(alloc, &bytes).ok()?;
-        let name = file_text(alloc, name).ok()?;
+    let mut text = String::new(alloc);
+    for file in files {
+        let name = file_text(alloc, file.name).ok()?;
+        let digits = hex::encode(alloc, file.bytes.as_slice()).ok()?;
         write!(text, "{} {}\n", name.as_str(), digits.as_str()).ok()?;
     }
-    store.stop(0).ok()
+    Some(text)
 }

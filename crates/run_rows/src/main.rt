@@ -21,6 +21,7 @@ use run::Run;
 use std::io;
 use std::sync::Wait;
 use std::thread::Threads;
+use tc_rows::name_and_argument;
 
 fn main(rt: HostRuntime) -> io::Result<()> {
     let mut run = Run::new(rt.alloc())?;
@@ -30,15 +31,27 @@ fn main(rt: HostRuntime) -> io::Result<()> {
     Ok(())
 }
 
+// The rows are read here, since what starts threads cannot be called by a method of a trait.
 fn answer(
     rt: &(impl Print + AllocGlobal + Threads + Wait + Sync),
     run: &mut Run,
     row: &str,
 ) -> io::Result<()> {
+    if row.starts_with('#') {
+        return println!(rt; "{row}");
+    }
     match answer_of(rt, run, row) {
-        Some(answer) => print!(rt; "{}", answer.as_str()),
+        Some(answer) => print_lines(rt, answer.as_str()),
         None => println!(rt; "no answer"),
     }
+}
+
+// Prints lines, of which the last one may not be ended.
+fn print_lines(rt: &impl Print, lines: &str) -> io::Result<()> {
+    if lines.is_empty() || lines.ends_with('\n') {
+        return print!(rt; "{lines}");
+    }
+    println!(rt; "{lines}")
 }
 
 // The lines that answer a row.
@@ -48,9 +61,8 @@ fn answer_of(
     row: &str,
 ) -> Option<String> {
     let alloc = rt.alloc();
-    let (call, argument) = row.split_once(' ').unwrap_or((row, ""));
+    let (call, argument) = name_and_argument(row);
     match call {
-        "#" => format!(in alloc; "{row}\n").ok(),
         "serve" => run.serve(rt),
         "files" => run.files(alloc, argument),
         "faults" => shown::faults(alloc),

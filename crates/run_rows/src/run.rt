@@ -6,10 +6,10 @@ use std::alloc::{AllocError, Global};
 use std::sync::Wait;
 use std::thread::Threads;
 use tc_edge::{MemSink, MemSource};
+use tc_rows::words;
 use tc_running::Free;
 use tc_server::{Served, run_program};
 use tc_store::MemShelf;
-use tc_value::Text;
 
 // The bytes that a call takes at most, and the number of the call that fails.
 #[derive(Clone, Copy)]
@@ -112,7 +112,7 @@ impl Run {
         rt: &R,
     ) -> Option<String> {
         let alloc = rt.alloc();
-        let words = words_of(alloc, self.words.as_str())?;
+        let words = words(alloc, self.words.as_str())?;
         let mut source = MemSource::new(
             self.input.to_vec(alloc).ok()?,
             self.reads.piece.max(1),
@@ -135,16 +135,6 @@ impl Run {
     pub(crate) fn files(&mut self, alloc: Global, argument: &str) -> Option<String> {
         self.parts.chosen()?.shown(alloc, argument)
     }
-}
-
-// The words of a line, which stand between single spaces.
-fn words_of(alloc: Global, line: &str) -> Option<Vec<Text>> {
-    let mut words = Vec::new(alloc);
-    for word in line.split(' ') {
-        let word = String::from_str(alloc, word).ok()?;
-        words.push(Text::of(word)).ok()?;
-    }
-    Some(words)
 }
 
 fn edge_of(argument: &str) -> Option<Edge> {

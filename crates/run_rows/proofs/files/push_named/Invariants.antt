@@ -1,7 +1,0 @@
-use Rattle.tc_store.specs.Disk.{IsAtRest}
-use Rattle.tc_store.specs.Memory.Store.{store_disks}
-use Rattle.tc_store.specs.Moments.{IfTold}
-use Rattle.run_rows.proofs.files.push_named.Given as goal
-
-abbrev pub invariant-loop-name : goal.invariant-loop-name
-invariant-loop-name l = IfTold (store_disks l.store) IsAtRest
