@@ -22,6 +22,7 @@ use script::Script;
 use std::io;
 use std::sync::Wait;
 use std::thread::Threads;
+use tc_rows::name_and_argument;
 
 fn main(rt: HostRuntime) -> io::Result<()> {
     let mut script = Script::new(rt.alloc());
@@ -31,15 +32,27 @@ fn main(rt: HostRuntime) -> io::Result<()> {
     Ok(())
 }
 
+// The rows are read here, since what starts threads cannot be called by a method of a trait.
 fn answer<R: Print + AllocGlobal + Threads + Wait + Sync>(
     rt: &R,
     script: &mut Script,
     row: &str,
 ) -> io::Result<()> {
+    if row.starts_with('#') {
+        return println!(rt; "{row}");
+    }
     match answer_of(rt, script, row) {
-        Some(answer) => print!(rt; "{}", answer.as_str()),
+        Some(answer) => print_lines(rt, answer.as_str()),
         None => println!(rt; "no answer"),
     }
+}
+
+// Prints lines, of which the last one may not be ended.
+fn print_lines(rt: &impl Print, lines: &str) -> io::Result<()> {
+    if lines.is_empty() || lines.ends_with('\n') {
+        return print!(rt; "{lines}");
+    }
+    println!(rt; "{lines}")
 }
 
 // The line that answers a row, if one does.
@@ -49,18 +62,12 @@ fn answer_of<R: AllocGlobal + Threads + Wait + Sync>(
     row: &str,
 ) -> Option<String> {
     let alloc = rt.alloc();
-    let (call, argument) = row.split_once(' ').unwrap_or((row, ""));
+    let (call, argument) = name_and_argument(row);
     match call {
-        "#" => format!(in alloc; "{row}\n").ok(),
         "stops" => {
             let (who, choices) = argument.split_once(' ')?;
-            stops::answer(
-                rt,
-                alloc,
-                script,
-                who_of(who)?,
-                choices.parse::<u64>().ok()?,
-            )
+            let choices = choices.parse::<u64>().ok()?;
+            stops::answer(rt, alloc, script, who_of(who)?, choices)
         }
         "twice" => twice::answer(rt, alloc, script, who_of(argument)?),
         _ => {

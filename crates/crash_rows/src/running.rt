@@ -92,7 +92,7 @@ impl<'a, R: Threads + Wait + Sync> Trial<'a, R> {
             rt,
             script,
             window: script.window()?,
-            words: script.words(alloc).ok()?,
+            words: script.words(alloc)?,
             input: script.input(alloc)?,
             gets: gets(alloc, script.keys())?,
             whole: Vec::new(alloc),

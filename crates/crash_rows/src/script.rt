@@ -1,8 +1,9 @@
 //! The lines of a run, and what a plain store has behind them.
 
 use crate::feed::message;
-use std::alloc::{AllocError, Global};
+use std::alloc::Global;
 use std::fmt::Write;
+use tc_rows::words;
 use tc_value::Text;
 
 // The keys below this are read of each script, whether or not a line has them.
@@ -101,12 +102,8 @@ impl Script {
     }
 
     /// The words of the command line.
-    pub(crate) fn words(&self, alloc: Global) -> Result<Vec<Text>, AllocError> {
-        let mut words = Vec::new(alloc);
-        for word in self.words.as_str().split(' ') {
-            words.push(Text::of(String::from_str(alloc, word)?))?;
-        }
-        Ok(words)
+    pub(crate) fn words(&self, alloc: Global) -> Option<Vec<Text>> {
+        words(alloc, self.words.as_str())
     }
 
     /// How many lines a window has at most, as the words say.
