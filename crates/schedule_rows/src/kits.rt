@@ -6,7 +6,8 @@ ghost use Rattle.tc_store.specs.Memory.Store.{store_disks};
 ghost use Rattle.tc_store.specs.Moments.{IfTold};
 
 use std::alloc::{AllocError, Global};
-use tc_store::{Kit, MemStore, MemWatch};
+use tc_rows::kit_over;
+use tc_store::{Kit, MemStore};
 
 /// How many partitions a run here has at most.
 const MOST: u32 = 4;
@@ -25,11 +26,5 @@ pub(crate) fn empty_kits(alloc: Global) -> Result<Vec<Kit<MemStore>>, AllocError
 fn empty_kit(alloc: Global) -> Kit<MemStore>
     ensures { IfTold (store_disks result.store) IsAtRest }
 {
-    Kit {
-        store: MemStore::new(alloc),
-        main: MemWatch::new(Vec::new(alloc)),
-        flusher: MemWatch::new(Vec::new(alloc)),
-        merger: MemWatch::new(Vec::new(alloc)),
-        reader: MemWatch::new(Vec::new(alloc)),
-    }
+    kit_over(alloc, MemStore::new(alloc))
 }

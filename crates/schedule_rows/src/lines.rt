@@ -1,8 +1,7 @@
-//! Words and lines of runs.
+//! Lines of runs.
 
 use std::alloc::Global;
 use std::fmt::Write;
-use tc_value::Text;
 
 /// Upserts of documents of some 500 bytes, one for each key below this, and a get of the first one.
 pub(crate) fn upserts_and_get(alloc: Global, keys: u32) -> Option<String> {
@@ -69,14 +68,4 @@ fn push_upsert(input: &mut String, key: u64, long: u64) -> Option<()> {
         input.push('x').ok()?;
     }
     input.push_str("\"}}\n").ok()
-}
-
-/// The words of a line, which stand between single spaces.
-pub(crate) fn words_of(alloc: Global, line: &str) -> Option<Vec<Text>> {
-    let mut words = Vec::new(alloc);
-    for word in line.split(' ') {
-        let word = String::from_str(alloc, word).ok()?;
-        words.push(Text::of(word)).ok()?;
-    }
-    Some(words)
 }

@@ -30,6 +30,7 @@ use std::alloc::Global;
 use std::io;
 use std::sync::Wait;
 use std::thread::Threads;
+use tc_rows::{name_and_argument, word};
 
 fn main(rt: HostRuntime) -> io::Result<()> {
     for row in rt.lines(rt.alloc()) {
@@ -38,7 +39,11 @@ fn main(rt: HostRuntime) -> io::Result<()> {
     Ok(())
 }
 
+// The rows are read here, since what starts threads cannot be called by a method of a trait.
 fn answer(rt: &(impl Print + AllocGlobal + Threads + Wait + Sync), row: &str) -> io::Result<()> {
+    if row.starts_with('#') {
+        return println!(rt; "{row}");
+    }
     match answer_of(rt, row) {
         Some(answer) => println!(rt; "{}", answer.as_str()),
         None => println!(rt; "no answer"),
@@ -48,9 +53,8 @@ fn answer(rt: &(impl Print + AllocGlobal + Threads + Wait + Sync), row: &str) ->
 // The line that answers a row.
 fn answer_of(rt: &(impl AllocGlobal + Threads + Wait + Sync), row: &str) -> Option<String> {
     let alloc = rt.alloc();
-    let (call, argument) = row.split_once(' ').unwrap_or((row, ""));
+    let (call, argument) = name_and_argument(row);
     match call {
-        "#" => String::from_str(alloc, row).ok(),
         "beside" => beside::with_job(rt, argument).and_then(|met| met_text(alloc, met)),
         "at" => beside::of_engines(rt).and_then(|met| met_text(alloc, met)),
         "scan" => scanning::is_between(rt).and_then(|met| met_text(alloc, met)),
@@ -79,9 +83,9 @@ fn answer_of(rt: &(impl AllocGlobal + Threads + Wait + Sync), row: &str) -> Opti
 }
 
 fn met_text(alloc: Global, met: bool) -> Option<String> {
-    String::from_str(alloc, if met { "met" } else { "missed" }).ok()
+    word(alloc, if met { "met" } else { "missed" })
 }
 
 fn truth_text(alloc: Global, is: bool) -> Option<String> {
-    String::from_str(alloc, if is { "so it is" } else { "it is not" }).ok()
+    word(alloc, if is { "so it is" } else { "it is not" })
 }

@@ -1,7 +1,6 @@
 //! A run of the server over streams and files in memory.
 
 use crate::kits::empty_kits;
-use crate::lines::words_of;
 use std::alloc::Global;
 use std::sync::Wait;
 use std::thread::Threads;
@@ -21,7 +20,7 @@ pub(crate) fn replies<R: AllocGlobal + Threads + Wait + Sync, P: Pace + 'static>
     pace: P,
 ) -> Option<Vec<u8>> {
     let alloc = rt.alloc();
-    let words = words_of(alloc, words)?;
+    let words = tc_rows::words(alloc, words)?;
     let input = input.as_bytes().to_vec(alloc).ok()?;
     let mut source = MemSource::new(input, PIECE, Vec::new(alloc));
     let mut sink = MemSink::new(alloc, PIECE, Vec::new(alloc));

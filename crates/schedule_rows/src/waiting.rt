@@ -2,12 +2,11 @@
 
 ghost use Rattle.std.specs.Prelude.{None};
 
-use crate::lines::words_of;
 use crate::running::{PIECE, empty_shelf};
-use std::alloc::Global;
 use std::sync::Wait;
 use std::thread::Threads;
 use tc_edge::{EdgeFault, MemSink, Source};
+use tc_rows::numbers;
 use tc_running::Free;
 use tc_server::serve;
 
@@ -22,7 +21,7 @@ const LINES: [&str; 5] = [GET, GET, GET, SCHEMA, GET];
 // after the lines that were given so far.
 #[derive(Drop)]
 struct Waiting {
-    due: Vec<usize>,
+    due: Vec<u64>,
     at: usize,
     faults: u64,
 }
@@ -47,8 +46,8 @@ impl Source<MemSink> for Waiting {
     }
 }
 
-fn replies(accepted: &[u8]) -> usize {
-    let mut count = 0usize;
+fn replies(accepted: &[u8]) -> u64 {
+    let mut count = 0u64;
     for byte in accepted {
         if *byte == b'\n' {
             count = count.saturating_add(1);
@@ -65,9 +64,9 @@ pub(crate) fn answer_of<R: AllocGlobal + Threads + Wait + Sync>(
 ) -> Option<String> {
     let alloc = rt.alloc();
     let (due, words) = argument.split_once("; ")?;
-    let words = words_of(alloc, words)?;
+    let words = tc_rows::words(alloc, words)?;
     let mut source = Waiting {
-        due: numbers_in(alloc, due)?,
+        due: numbers(alloc, due)?,
         at: 0,
         faults: 0,
     };
@@ -83,13 +82,4 @@ pub(crate) fn answer_of<R: AllocGlobal + Threads + Wait + Sync>(
         Free,
     );
     format!(in alloc; "status {}", served.status).ok()
-}
-
-// Numbers, between two of them a space.
-fn numbers_in(alloc: Global, text: &str) -> Option<Vec<usize>> {
-    let mut numbers = Vec::new(alloc);
-    for number in text.split(' ') {
-        numbers.push(number.parse::<usize>().ok()?).ok()?;
-    }
-    Some(numbers)
 }
