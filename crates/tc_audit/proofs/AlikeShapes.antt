@@ -32,10 +32,13 @@ module _ (names : List Name) where
     members_named no_members = refl
     members_named (member k t ms) = rw (shape_named t, members_named ms) refl
 
+  -- with names, trees that are alike have one shape
+  pub alike_named : (n m : NumberedTree) → AreAlike (tokens_of n) (tokens_of m) → document_shape (expanded names n) ≡ document_shape (expanded names m)
+  alike_named n m alike = shape_named n ∙ ap (relabel (name_at names) (λ k. k)) (same_outline n m alike) ∙ sym (shape_named m)
+
   pub alike_shape : (d e : Document) → HasEach names (names_within (document_shape d)) → HasEach names (names_within (document_shape e)) → AreAlike (tokens_of (compacted names d)) (tokens_of (compacted names e)) → document_shape d ≡ document_shape e
   alike_shape d e known others alike =
-      ap document_shape (sym (tree_again names d known)) ∙ shape_named (compacted names d) ∙ ap (relabel (name_at names) (λ k. k)) (same_outline (compacted names d) (compacted names e) alike)
-      ∙ sym (shape_named (compacted names e)) ∙ ap document_shape (tree_again names e others)
+      ap document_shape (sym (tree_again names d known)) ∙ alike_named (compacted names d) (compacted names e) alike ∙ ap document_shape (tree_again names e others)
 
 -- the record of a document and a newer one under newer names
 module _ (stays : (form : ℕ) (d : Document) (whole bytes : List ℕ) (names newer : List Name) → IsRecordOf d whole → IsCompactedIn form names d bytes → IsDictionary newer → Extends newer names → IsCompactedIn form newer d bytes) where

@@ -116,7 +116,7 @@ module _ (names : List Name) (wanted : Name) where
   told None has ms known = sym (not_among has ms known)
   told (Some k) has ms known = among k has ms known
 
-nothing_is : (o : Option Document) → not (is_some o) ≡ true → o ≡ None
+pub nothing_is : (o : Option Document) → not (is_some o) ≡ true → o ≡ None
 nothing_is None e = refl
 nothing_is (Some x) e = cc
 

@@ -1,12 +1,14 @@
 mod NamesAgain
 mod LackedLabels
 mod FirstMember
+mod StoredShapes
 mod StoredLaws
 mod SameOutlines
 mod AlikeBytes
 mod AlikeShapes
 mod HeldParts
 mod ContentLaws
+mod LikeStored
 mod CountedSteps
 mod ManyLive
 mod Rooms
@@ -16,3 +18,7 @@ mod OlderRecords
 mod CountedComponents
 mod AuditSteps
 mod Outcomes
+mod TimesLaws
+mod AddedCounters
+mod AddedParts
+mod WaitingLaws

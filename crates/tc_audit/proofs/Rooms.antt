@@ -76,10 +76,3 @@ below gained bound full not_full tests = cases (cases_lt gained bound)
     cases : (gained < bound) ⊎ (bound ≤ gained) → gained < bound
     cases (inl less) = less
     cases (inr more) = absurd (both_ways full not_full (tests more))
-
-pub not_over : (gained bound : ℕ) (over : Bool) → over ≡ false → (bound < gained → over ≡ true) → gained ≤ bound
-not_over gained bound over not_so tests = cases (cases_lt bound gained)
-  where
-    cases : (bound < gained) ⊎ (gained ≤ bound) → gained ≤ bound
-    cases (inl more) = absurd (both_ways over not_so (tests more))
-    cases (inr less) = less

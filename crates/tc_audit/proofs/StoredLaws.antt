@@ -8,6 +8,7 @@ use Rattle.tc_model.specs.Document.{Name, Document, document_shape}
 use Rattle.tc_model.specs.Dictionary.{Extends, IsDictionary}
 use Rattle.tc_model.specs.KnownNames.{HasEach}
 use Rattle.tc_model.specs.ShapeNames.{names_within}
+use Rattle.tc_model.specs.Stored.{IsKeyless}
 use Rattle.tc_names.specs.Longest.{longest_of}
 use Rattle.tc_record.specs.Record.{labels, texts, record_of, NumberedTree, IsNumberedForm, IsNumberedRecordIn, IsRecordOf}
 use Rattle.tc_record.specs.Preorder.{tokens_of}
@@ -69,13 +70,19 @@ stored_lacks names r dictionary spells s =
 pub known_under : (names : List Name) (form : ℕ) (d : Document) (bytes : List ℕ) → IsCompactedIn form names d bytes → HasEach names (names_within (document_shape d))
 known_under names form d bytes compact = subst (HasEach names) (sym (document_names d) ∙ same_order d) compact.known
 
+-- a document without a member `id` has a record without the number of that name
+pub lacks_by_document : (names : List Name) (r : Record) (d : Document) → r.named ≡ false → Spells r → IsRecordUnder names d r.bytes → IsKeyless d → lacks_id names r.tokens ≡ true
+lacks_by_document names r d unnamed spells (inl is) keyless = absurd (both_ways r.named unnamed (document_tokens r d spells is).0)
+lacks_by_document names r d unnamed spells (inr (whole, is, under)) keyless =
+    ap (lacks_id names) (tree_tokens r under.0 (compacted names d) spells under.1.0 under.1.1.numbered) ∙ test_of_keyless names d keyless (known_under names under.0 d r.bytes under.1.1)
+
 -- an object whose first member is called by a name behind `id` has no member `id`
 pub lacks_by_first : (names : List Name) (r : Record) (d : Document) → r.named ≡ false → Spells r → IsRecordUnder names d r.bytes → ((n : NumberedTree) → r.tokens ≡ numbered_tokens n → IsTrue (begins_behind names (labels (tokens_of n)))) → lacks_id names r.tokens ≡ true
 lacks_by_first names r d unnamed spells (inl is) begins = absurd (both_ways r.named unnamed (document_tokens r d spells is).0)
 lacks_by_first names r d unnamed spells (inr (whole, is, under)) begins =
     let known = known_under names under.0 d r.bytes under.1.1 in
-    let tokens_are : r.tokens ≡ numbered_tokens (compacted names d) = tree_tokens r under.0 (compacted names d) spells under.1.0 under.1.1.numbered in
-    ap (lacks_id names) tokens_are ∙ test_of_keyless names d (keyless_behind names d is.is_object is.document known (begins (compacted names d) tokens_are)) known
+    let first = begins (compacted names d) (tree_tokens r under.0 (compacted names d) spells under.1.0 under.1.1.numbered) in
+    lacks_by_document names r d unnamed spells (inr (whole, is, under)) (keyless_behind names d is.is_object is.document known first)
 
 pub stored_by_tests : (names : List Name) (r : Record) (d : Document) → r.named ≡ false → Spells r → IsRecordUnder names d r.bytes
     → ((n : NumberedTree) → r.tokens ≡ numbered_tokens n → length (record_of (expanded names n)) < 2 ^ 30) → lacks_id names r.tokens ≡ true → IsStoredIn r.form names r.bytes

@@ -5,3 +5,5 @@ pub mod Told
 pub mod Reasons
 pub mod Stops
 pub mod Walking
+pub mod Times
+pub mod Waiting

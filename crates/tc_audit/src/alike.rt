@@ -67,3 +67,22 @@ fn ends_alike(bytes: &[u8], other: &[u8], size: usize) -> bool
     }
     bytes[bytes.len() - size..] == other[other.len() - size..]
 }
+
+/// The bytes in which the numbers of a record without names stand, or none. Takes no memory.
+pub(crate) fn numbers_of<'a>(of: &RecordRef<'a>) -> &'a [u8] {
+    let bytes = of.bytes();
+    let tagged = HEADER_SIZE + of.token_count() as usize;
+    if bytes.len() < tagged {
+        return &bytes[..0];
+    }
+    match size_of_numbers(of.form(), bytes[WIDTH_AT], of.member_count()) {
+        Some(size) => {
+            if size <= bytes.len() {
+                &bytes[bytes.len() - size..]
+            } else {
+                &bytes[..0]
+            }
+        }
+        None => &bytes[..0],
+    }
+}

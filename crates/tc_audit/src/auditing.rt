@@ -13,7 +13,8 @@ ghost use Rattle.tc_audit.specs.declared.verdict.Verdict.TheVariants.{Right as a
 ghost use Rattle.tc_audit.specs.Reasons.{AreRight, IsReason, IsWatched, IsWrongBehind};
 ghost use Rattle.tc_audit.specs.Stops.{IfRight, IfTold, IfWrong, position_of};
 ghost use Rattle.tc_audit.specs.Told.{content_in, IsHeld, IsOf};
-ghost use Rattle.tc_audit.specs.Walking.{AreInFront, IsMiscount, Tells};
+ghost use Rattle.tc_audit.specs.Waiting.{all_counted, IsSound};
+ghost use Rattle.tc_audit.specs.Walking.{AreInFront, IsCounting, IsMiscount, Tells};
 
 use crate::counting::Recount;
 use crate::fault::AuditFault;
@@ -122,34 +123,52 @@ fn count_component<F: Frozen>(
         return Err(Stop::Memory);
     }
     let names = component.names().copy()?;
-    let mut recount = Recount {
-        schema,
-        names,
-        gained: 0,
-    };
+    let mut recount = Recount::of(alloc, schema, names, component.version());
     count_entries(alloc, older, component, &mut recount, watch)?;
     judge_counts(alloc, older.len(), component, recount)
 }
 
-/// The schema that was counted, where few documents are live and it is the component's own.
+/// The schema that was counted, with all that waits, where few documents are live and it is the component's own.
 fn judge_counts<F: Frozen>(
     alloc: Global,
     number: usize,
     component: &Component<F>,
     recount: Recount,
 ) -> Result<Schema, Stop>
-    requires canonical { IsCanonical (length component.now.index.names) recount.schema }
-    ensures same { IfOk result (λ counted. (counted ≡ recount.schema) × (counted ≡ component.now.index.schema)) }
+    requires names { recount.names ≡ component.now.index.names }
+    requires sound { IsSound recount }
+    requires counting { IsCounting component.now.index.names (all_counted recount) recount.gained }
+    ensures same { IfOk result (λ counted. (counted ≡ all_counted recount) × (counted ≡ component.now.index.schema)) }
     ensures few { IfOk result (λ counted. (recount.gained < 2 ^ 32) × (documents_of counted < 2 ^ 32)) }
+    ensures place { IfWrong result (λ w. position_of w ≡ number) }
+    ensures wrong { IfWrong result (IsMiscount number component.now.index (all_counted recount) recount.gained) }
+    ensures no_disk { IsErrOf result Stop.Disk → ⊥ }
+{
+    if is_full(recount.gained) {
+        return Err(Stop::Wrong(Wrong::Documents { component: number }));
+    }
+    let mut settled = recount;
+    settled.settle()?;
+    judge_schema(alloc, number, component, settled)
+}
+
+/// The schema that was counted, where few documents are live and it is the component's own.
+fn judge_schema<F: Frozen>(
+    alloc: Global,
+    number: usize,
+    component: &Component<F>,
+    recount: Recount,
+) -> Result<Schema, Stop>
+    requires canonical { IsCanonical (length component.now.index.names) recount.schema }
+    requires few { recount.gained < 2 ^ 32 }
+    ensures same { IfOk result (λ counted. (counted ≡ recount.schema) × (counted ≡ component.now.index.schema)) }
+    ensures few { IfOk result (λ counted. documents_of counted < 2 ^ 32) }
     ensures place { IfWrong result (λ w. position_of w ≡ number) }
     ensures wrong { IfWrong result (IsMiscount number component.now.index recount.schema recount.gained) }
     ensures no_disk { IsErrOf result Stop.Disk → ⊥ }
 {
     // that the schema of the component is in the one form
     let _lawful = component.file_len();
-    if is_full(recount.gained) {
-        return Err(Stop::Wrong(Wrong::Documents { component: number }));
-    }
     if is_full(recount.schema.documents()) {
         return Err(Stop::Wrong(Wrong::Documents { component: number }));
     }

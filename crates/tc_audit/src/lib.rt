@@ -8,8 +8,12 @@ mod counting;
 mod fault;
 mod law;
 mod older;
+mod outline;
+mod shapes;
 mod stop;
 mod stored;
+mod stored_like;
+mod times;
 mod verdict;
 mod walk;
 

@@ -44,6 +44,7 @@ pub(crate) fn take_off<F: Frozen>(
     requires newer { AreInFront older.now recount.old.names }
     ensures names { recount.new.names ≡ recount.old.names }
     ensures gained { recount.new.gained ≡ recount.old.gained }
+    ensures rest { (recount.new.shapes ≡ recount.old.shapes) × (recount.new.waits ≡ recount.old.waits) }
     ensures canonical { OnOk result (IsCanonical (length recount.old.names) recount.new.schema) }
     ensures room { OnOk result ((path : Path) → total_at recount.old.names recount.new.schema path ≤ total_at recount.old.names recount.old.schema path) }
     ensures taken { OnOk result ((part : Partition) (cs : List Content) → AreRight F.content part older.now cs → IsLessBy (value_of key (live cs)) recount.old.names recount.old.schema recount.new.schema) }
@@ -79,6 +80,7 @@ fn take_off_from<F: Frozen>(
     requires newer { Extends recount.old.names component.now.index.names }
     ensures names { recount.new.names ≡ recount.old.names }
     ensures gained { recount.new.gained ≡ recount.old.gained }
+    ensures rest { (recount.new.shapes ≡ recount.old.shapes) × (recount.new.waits ≡ recount.old.waits) }
     ensures canonical { OnOk result (IsCanonical (length recount.old.names) recount.new.schema) }
     ensures room { OnOk result ((path : Path) → total_at recount.old.names recount.new.schema path ≤ total_at recount.old.names recount.old.schema path) }
     ensures taken { OnOk result ((d : Document) (whole : List ℕ) → IsStoredAt F.content component.now place.at d whole → IsLessBy (Some d) recount.old.names recount.old.schema recount.new.schema) }
@@ -130,6 +132,7 @@ fn take_record(bytes: &[u8], recount: &mut Recount) -> bool
     requires canonical { IsCanonical (length recount.old.names) recount.old.schema }
     ensures names { recount.new.names ≡ recount.old.names }
     ensures gained { recount.new.gained ≡ recount.old.gained }
+    ensures rest { (recount.new.shapes ≡ recount.old.shapes) × (recount.new.waits ≡ recount.old.waits) }
     ensures canonical { IsTrue result → IsCanonical (length recount.old.names) recount.new.schema }
     ensures room { IsTrue result → (path : Path) → total_at recount.old.names recount.new.schema path ≤ total_at recount.old.names recount.old.schema path }
     ensures taken { IsTrue result → (d : Document) → IsRecordUnder recount.old.names d bytes.now → IsLessBy (Some d) recount.old.names recount.old.schema recount.new.schema }

@@ -70,7 +70,7 @@ fn is_short(of: RecordRef<'_>, names: &Names) -> bool
 
 /// Whether a record of so many bytes, members and texts is short with a name in place of each number, and names of at most so
 /// many bytes. The slot of a name has at most four bytes, and so has the length of a text.
-fn is_short_with_names(len: usize, members: u32, texts: u32, longest: u32) -> bool
+pub(crate) fn is_short_with_names(len: usize, members: u32, texts: u32, longest: u32) -> bool
     ensures { result ≡ nat_lt (len + (members * (longest + 4) + texts * 4)) (2 ^ 30) }
 {
     let slots = u64::from(members).saturating_mul(u64::from(longest) + 4);

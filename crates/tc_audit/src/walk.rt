@@ -1,6 +1,6 @@
 //! The entries of a component, read and counted in ascending key.
 
-ghost use Rattle.std.specs.Prelude.{◌≡◌, ◌↔◌, ◌⊎◌, ◌≤◌, ◌<◌, ◌+◌, ◌^◌, ℕ, List, Some, OnOk, IfSome, IfNone, IsErrOf, IsTrue, codes, length};
+ghost use Rattle.std.specs.Prelude.{◌≡◌, ◌↔◌, ◌⊎◌, ◌≤◌, ◌<◌, ◌+◌, ◌^◌, ℕ, List, Some, OnOk, IfSome, IfNone, IsErrOf, IsTrue, codes, false, length};
 ghost use Rattle.tc_lsm_model.specs.Contents.{Partition, Content};
 ghost use Rattle.tc_lsm_model.specs.Lists.{live};
 ghost use Rattle.tc_model.specs.Dictionary.{number_of};
@@ -14,11 +14,13 @@ ghost use Rattle.tc_audit.specs.Reasons.{AreRight, IsWrongBehind, IsWatched};
 ghost use Rattle.tc_audit.specs.Stops.{IfWrong, position_of};
 ghost use Rattle.tc_audit.specs.Stored.{IsStoredIn};
 ghost use Rattle.tc_audit.specs.Told.{document_in};
+ghost use Rattle.tc_audit.specs.Waiting.{all_counted, AreKnown, IsOfShape, IsSound};
 ghost use Rattle.tc_audit.specs.Walking.{AreInFront, HoldParts, IsChangedBy, IsCounting, IsHarmAt, IsLessBy, IsNeverTold, IsUpTo, Tells};
 
 use crate::before::{Before, before_of, cursors_over};
 use crate::counting::{Recount, count_record};
 use crate::older::take_off;
+use crate::shapes::Shapes;
 use crate::stop::{Stop, of_read};
 use crate::stored::spells_stored;
 use std::alloc::Global;
@@ -43,13 +45,17 @@ pub(crate) fn count_entries<F: Frozen>(
     requires names { recount.old.names ≡ component.now.index.names }
     requires newer { AreInFront older.now component.now.index.names }
     requires none { recount.old.gained ≡ 0 }
-    requires counting { IsCounting component.now.index.names recount.old.schema 0 }
-    ensures counting { OnOk result (IsCounting component.now.index.names recount.new.schema recount.new.gained) }
+    requires form { recount.old.shapes.form ≡ component.now.index.version }
+    requires sound { IsSound recount.old }
+    requires counting { IsCounting component.now.index.names (all_counted recount.old) 0 }
+    ensures sound { OnOk result (IsSound recount.new) }
+    ensures names { OnOk result (recount.new.names ≡ component.now.index.names) }
+    ensures counting { OnOk result (IsCounting component.now.index.names (all_counted recount.new) recount.new.gained) }
     ensures counted { OnOk result ((part : Partition) (cs : List Content) (whole : List ℕ) → AreRight F.content part older.now cs → Tells F.content component.now whole
-        → IsUpTo component.now.index whole (live cs) 0 recount.old.schema 0 → IsUpTo component.now.index whole (live cs) (length component.now.index.slots) recount.new.schema recount.new.gained) }
+        → IsUpTo component.now.index whole (live cs) 0 (all_counted recount.old) 0 → IsUpTo component.now.index whole (live cs) (length component.now.index.slots) (all_counted recount.new) recount.new.gained) }
     ensures place { IfWrong result (λ w. position_of w ≤ length older.now) }
     ensures wrong { IfWrong result (λ w. (part : Partition) (cs : List Content) (whole : List ℕ) → AreRight F.content part older.now cs → Tells F.content component.now whole
-        → IsUpTo component.now.index whole (live cs) 0 recount.old.schema 0 → IsWrongBehind F.content cs component.now w) }
+        → IsUpTo component.now.index whole (live cs) 0 (all_counted recount.old) 0 → IsWrongBehind F.content cs component.now w) }
     ensures watched { IsWatched (IsErrOf result Stop.Disk) (F.Watch.counts watch.old) (F.Watch.counts watch.new) }
 {
     let mut cursor = RecordCursor::new(alloc);
@@ -88,19 +94,23 @@ fn count_entry<F: Frozen>(
     requires names { recount.old.names ≡ component.now.index.names }
     requires newer { AreInFront older.now component.now.index.names }
     requires few { recount.old.gained ≤ at }
-    requires counting { IsCounting component.now.index.names recount.old.schema recount.old.gained }
+    requires form { recount.old.shapes.form ≡ component.now.index.version }
+    requires sound { IsSound recount.old }
+    requires counting { IsCounting component.now.index.names (all_counted recount.old) recount.old.gained }
     requires of { HoldsPart (F.content component.now.file) cursor.old }
     requires each { HoldParts F.content older.now cursors.old }
     ensures of { HoldsPart (F.content component.now.file) cursor.new }
     ensures each { HoldParts F.content older.now cursors.new }
     ensures names { OnOk result (recount.new.names ≡ component.now.index.names) }
     ensures few { OnOk result (recount.new.gained ≤ at + 1) }
-    ensures counting { OnOk result (IsCounting component.now.index.names recount.new.schema recount.new.gained) }
+    ensures form { OnOk result (recount.new.shapes.form ≡ component.now.index.version) }
+    ensures sound { OnOk result (IsSound recount.new) }
+    ensures counting { OnOk result (IsCounting component.now.index.names (all_counted recount.new) recount.new.gained) }
     ensures counted { OnOk result ((part : Partition) (cs : List Content) (whole : List ℕ) → AreRight F.content part older.now cs → Tells F.content component.now whole
-        → IsUpTo component.now.index whole (live cs) at recount.old.schema recount.old.gained → IsUpTo component.now.index whole (live cs) (at + 1) recount.new.schema recount.new.gained) }
+        → IsUpTo component.now.index whole (live cs) at (all_counted recount.old) recount.old.gained → IsUpTo component.now.index whole (live cs) (at + 1) (all_counted recount.new) recount.new.gained) }
     ensures place { IfWrong result (λ w. position_of w ≤ length older.now) }
     ensures wrong { IfWrong result (λ w. (part : Partition) (cs : List Content) (whole : List ℕ) → AreRight F.content part older.now cs → Tells F.content component.now whole
-        → IsUpTo component.now.index whole (live cs) at recount.old.schema recount.old.gained → IsWrongBehind F.content cs component.now w) }
+        → IsUpTo component.now.index whole (live cs) at (all_counted recount.old) recount.old.gained → IsWrongBehind F.content cs component.now w) }
     ensures watched { IsWatched (IsErrOf result Stop.Disk) (F.Watch.counts watch.old) (F.Watch.counts watch.new) }
 {
     document_meant();
@@ -115,7 +125,7 @@ fn count_entry<F: Frozen>(
     }
 }
 
-/// Takes off what was live of a key, unless it is known that too many documents are live.
+/// Takes off what was live of a key, unless it is known that too many documents are live. All that waits is counted before.
 fn take_few<F: Frozen>(
     alloc: Global,
     older: &ComponentList<F>,
@@ -123,19 +133,23 @@ fn take_few<F: Frozen>(
     recount: &mut Recount,
     watch: &mut F::Watch,
 ) -> Result<(), Stop>
-    requires counting { IsCounting recount.old.names recount.old.schema recount.old.gained }
+    requires sound { IsSound recount.old }
+    requires counting { IsCounting recount.old.names (all_counted recount.old) recount.old.gained }
     requires newer { AreInFront older.now recount.old.names }
     ensures names { recount.new.names ≡ recount.old.names }
     ensures gained { recount.new.gained ≡ recount.old.gained }
-    ensures counting { OnOk result (IsCounting recount.old.names recount.new.schema recount.old.gained) }
-    ensures taken { OnOk result ((part : Partition) (cs : List Content) → AreRight F.content part older.now cs → recount.old.gained ≤ 2 ^ 32 → IsLessBy (value_of key (live cs)) recount.old.names recount.old.schema recount.new.schema) }
+    ensures form { recount.new.shapes.form ≡ recount.old.shapes.form }
+    ensures sound { OnOk result (IsSound recount.new) }
+    ensures counting { OnOk result (IsCounting recount.old.names (all_counted recount.new) recount.old.gained) }
+    ensures taken { OnOk result ((part : Partition) (cs : List Content) → AreRight F.content part older.now cs → recount.old.gained ≤ 2 ^ 32 → IsLessBy (value_of key (live cs)) recount.old.names (all_counted recount.old) (all_counted recount.new)) }
     ensures place { IfWrong result (λ w. position_of w < length older.now) }
-    ensures never { IfWrong result (λ w. IsNeverTold F.content older.now key recount.old.names recount.old.schema recount.old.gained) }
+    ensures never { IfWrong result (λ w. IsNeverTold F.content older.now key recount.old.names (all_counted recount.old) recount.old.gained) }
     ensures watched { IsWatched (IsErrOf result Stop.Disk) (F.Watch.counts watch.old) (F.Watch.counts watch.new) }
 {
     if is_over(recount.gained) {
         return Ok(());
     }
+    recount.settle()?;
     take_off(alloc, older, key, recount, watch)
 }
 
@@ -171,28 +185,37 @@ fn count_place<F: Frozen>(
     requires names { recount.old.names ≡ component.now.index.names }
     requires newer { AreInFront older.now component.now.index.names }
     requires few { recount.old.gained + 1 < 2 ^ 64 }
-    requires counting { IsCounting component.now.index.names recount.old.schema recount.old.gained }
+    requires form { recount.old.shapes.form ≡ component.now.index.version }
+    requires sound { IsSound recount.old }
+    requires counting { IsCounting component.now.index.names (all_counted recount.old) recount.old.gained }
     requires of { HoldsPart (F.content component.now.file) cursor.old }
     requires each { HoldParts F.content older.now cursors.old }
     ensures of { HoldsPart (F.content component.now.file) cursor.new }
     ensures each { HoldParts F.content older.now cursors.new }
     ensures names { OnOk result (recount.new.names ≡ component.now.index.names) }
     ensures gained { OnOk result (recount.new.gained ≡ recount.old.gained + 1) }
-    ensures counting { OnOk result (IsCounting component.now.index.names recount.new.schema recount.new.gained) }
+    ensures form { OnOk result (recount.new.shapes.form ≡ component.now.index.version) }
+    ensures sound { OnOk result (IsSound recount.new) }
+    ensures counting { OnOk result (IsCounting component.now.index.names (all_counted recount.new) recount.new.gained) }
     ensures stored { OnOk result ((whole : List ℕ) → F.content component.now.file ≡ Some whole → IsStoredIn component.now.index.version component.now.index.names (record_at component.now.index.slots place.at whole)) }
     ensures counted { OnOk result ((whole : List ℕ) (part : Partition) (cs : List Content) → F.content component.now.file ≡ Some whole → AreRight F.content part older.now cs → recount.old.gained < 2 ^ 32
-        → IsChangedBy (value_of key (live cs)) (document_in component.now.index.names (record_at component.now.index.slots place.at whole)) component.now.index.names recount.old.schema recount.new.schema) }
+        → IsChangedBy (value_of key (live cs)) (document_in component.now.index.names (record_at component.now.index.slots place.at whole)) component.now.index.names (all_counted recount.old) (all_counted recount.new)) }
     ensures place { IfWrong result (λ w. position_of w ≤ length older.now) }
     ensures wrong { IfWrong result (λ w. ((whole : List ℕ) → F.content component.now.file ≡ Some whole → IsHarmAt (length older.now) component.now.index place.at whole w)
-        ⊎ IsNeverTold F.content older.now key component.now.index.names recount.old.schema recount.old.gained) }
+        ⊎ IsNeverTold F.content older.now key component.now.index.names (all_counted recount.old) recount.old.gained) }
     ensures watched { IsWatched (IsErrOf result Stop.Disk) (F.Watch.counts watch.old) (F.Watch.counts watch.new) }
 {
+    // that the names are a dictionary
+    let _lawful = component.file_len();
     let number = older.len();
     let (begin, count) = component.record_range(place);
     hold(number, component, begin, count, cursor, watch)?;
     let bytes = cursor.part(begin, count);
-    match stored_in(bytes, component, id) {
-        Some(of) => replace_few(alloc, older, key, of, cursors, recount, watch)?,
+    let Some(of) = RecordRef::numbered(bytes, component.version()) else {
+        return Err(unstored(alloc, number, component, place, bytes));
+    };
+    match shape_of(&of, component, id, &recount.shapes) {
+        Some(shape) => replace_few(alloc, older, key, &of, shape, cursors, recount, watch)?,
         None => return Err(unstored(alloc, number, component, place, bytes)),
     }
     recount.gained += 1;
@@ -205,34 +228,43 @@ fn replace_few<F: Frozen>(
     alloc: Global,
     older: &ComponentList<F>,
     key: u64,
-    of: RecordRef<'_>,
+    of: &RecordRef<'_>,
+    shape: Option<usize>,
     cursors: &mut [RecordCursor],
     recount: &mut Recount,
     watch: &mut F::Watch,
 ) -> Result<(), Stop>
-    requires stored { IsStoredIn of.form recount.old.names of.bytes }
+    requires stored { IsStoredIn of.now.form recount.old.names of.now.bytes }
+    requires form { of.now.form ≡ recount.old.shapes.form }
+    requires shape { IfSome shape (IsOfShape recount.old.names of.now recount.old.shapes.known.items) }
+    requires sound { IsSound recount.old }
     requires newer { AreInFront older.now recount.old.names }
-    requires counting { IsCounting recount.old.names recount.old.schema recount.old.gained }
+    requires counting { IsCounting recount.old.names (all_counted recount.old) recount.old.gained }
     requires each { HoldParts F.content older.now cursors.old }
     ensures each { HoldParts F.content older.now cursors.new }
     ensures names { OnOk result (recount.new.names ≡ recount.old.names) }
     ensures gained { recount.new.gained ≡ recount.old.gained }
-    ensures counting { OnOk result (IsCounting recount.old.names recount.new.schema (recount.old.gained + 1)) }
+    ensures form { recount.new.shapes.form ≡ recount.old.shapes.form }
+    ensures sound { OnOk result (IsSound recount.new) }
+    ensures counting { OnOk result (IsCounting recount.old.names (all_counted recount.new) (recount.old.gained + 1)) }
     ensures counted { OnOk result ((part : Partition) (cs : List Content) → AreRight F.content part older.now cs → recount.old.gained < 2 ^ 32
-        → IsChangedBy (value_of key (live cs)) (document_in recount.old.names of.entry.bytes) recount.old.names recount.old.schema recount.new.schema) }
+        → IsChangedBy (value_of key (live cs)) (document_in recount.old.names of.now.bytes) recount.old.names (all_counted recount.old) (all_counted recount.new)) }
     ensures place { IfWrong result (λ w. position_of w < length older.now) }
-    ensures never { IfWrong result (λ w. IsNeverTold F.content older.now key recount.old.names recount.old.schema recount.old.gained) }
+    ensures never { IfWrong result (λ w. IsNeverTold F.content older.now key recount.old.names (all_counted recount.old) recount.old.gained) }
     ensures watched { IsWatched (IsErrOf result Stop.Disk) (F.Watch.counts watch.old) (F.Watch.counts watch.new) }
 {
     if is_full(recount.gained) {
         return Ok(());
     }
-    match before_of(older, key, &of, &recount.names, cursors, watch)? {
+    let shape = match before_of(older, key, of, &recount.names, cursors, watch)? {
         Before::OfOneShape => return Ok(()),
-        Before::Another => take_off(alloc, older, key, recount, watch)?,
-        Before::Nothing => {}
-    }
-    count_record(of, recount)?;
+        Before::Another => {
+            take_few(alloc, older, key, recount, watch)?;
+            None
+        }
+        Before::Nothing => shape,
+    };
+    count_record(of, shape, recount)?;
     Ok(())
 }
 
@@ -258,25 +290,35 @@ fn hold<F: Frozen>(
     }
 }
 
-/// The record that bytes of a component are, if it spells a document as it is stored there. Takes no memory.
-fn stored_in<'a, F: Frozen>(
-    bytes: &'a [u8],
+/// The shape of a record of a component, if that is known, where it spells a document as it is stored there. Where the shape is known
+/// nothing else is looked at. Takes no memory.
+fn shape_of<F: Frozen>(
+    of: &RecordRef<'_>,
     component: &Component<F>,
     id: Option<u32>,
-) -> Option<RecordRef<'a>>
-    requires { id ≡ number_of component.now.index.names (codes "id") }
-    ensures bytes { IfSome result (λ of. of.bytes ≡ bytes.now) }
-    ensures form { IfSome result (λ of. of.form ≡ component.now.index.version) }
-    ensures stored { IfSome result (λ of. IsStoredIn of.form component.now.index.names of.bytes) }
-    ensures none { IfNone result (IsStoredIn component.now.index.version component.now.index.names bytes.now → ⊥) }
+    shapes: &Shapes,
+) -> Option<Option<usize>>
+    requires numbered { of.now.named ≡ false }
+    requires id { id ≡ number_of component.now.index.names (codes "id") }
+    requires form { of.now.form ≡ component.now.index.version }
+    requires same { of.now.form ≡ shapes.now.form }
+    requires known { AreKnown shapes.now.form component.now.index.names shapes.now.known.items }
+    ensures stored { IfSome result (λ shape. IsStoredIn of.now.form component.now.index.names of.now.bytes) }
+    ensures shape { IfSome result (λ shape. IfSome shape (IsOfShape component.now.index.names of.now shapes.now.known.items)) }
+    ensures none { IfNone result (IsStoredIn of.now.form component.now.index.names of.now.bytes → ⊥) }
 {
     // that the names are a dictionary
     let _lawful = component.file_len();
-    let of = RecordRef::numbered(bytes, component.version())?;
-    if !spells_stored(of.again(), component.names(), id) {
-        return None;
+    match shapes.find(of, component.names()) {
+        Some(at) => Some(Some(at)),
+        None => {
+            if spells_stored(of.again(), component.names(), id) {
+                Some(None)
+            } else {
+                None
+            }
+        }
     }
-    Some(of)
 }
 
 /// That the record at a place of the component at a position is no stored one, or want of memory.

@@ -1,42 +1,28 @@
-use Rattle.std.proofs.Common.{sym, subst}
+use Rattle.std.proofs.Common.{List, length, subst}
 use Rattle.std.proofs.lemmas.Result.{on_ok_weaker}
+use Rattle.tc_model.specs.Document.{Name}
+use Rattle.tc_schema_model.specs.Counted.{IsCanonical}
+use Rattle.tc_audit.specs.Waiting.{all_counted}
 use Rattle.tc_audit.specs.Walking.{IsMoreBy}
 use Rattle.tc_audit.proofs.ContentLaws.{stored_document}
-use Rattle.tc_audit.proofs.Rooms.{counters_room, more_by, total_more}
-use Rattle.tc_audit.proofs.StoredLaws.{kept_in, stored_under}
+use Rattle.tc_audit.proofs.Outcomes.{ok_and}
+use Rattle.tc_audit.proofs.Rooms.{total_more}
+use Rattle.tc_audit.proofs.StoredLaws.{kept_in}
+use Rattle.tc_audit.proofs.WaitingLaws.{all_canonical}
 use Rattle.tc_audit.proofs.counting.count_record.Goals as goal
 
-pub add_known-requires-clause-countable : goal.add_known-requires-clause-countable
-add_known-requires-clause-countable c =
-    let names = c.args.recount.now.names in
-    let s = c.requires.stored in
-    let dictionary = c.len-known.ensures.dictionary in
-    record {
-      document = s.document;
-      is_record = stored_under c.args.of.form names c.args.of.bytes dictionary s;
-      named = s.named;
-      room = counters_room c.names_agree.ensures.values names c.args.recount.now.schema s.document (kept_in c.args.of.form names c.args.of.bytes dictionary s).whole s.short c.requires.room;
-    }
-
-pub returns-clause-counted : goal.returns-clause-counted
-returns-clause-counted c =
-    let names = c.args.recount.now.names in
-    let before = c.args.recount.now.schema in
-    let s = c.requires.stored in
-    let dictionary = c.len-known.ensures.dictionary in
-    on_ok_weaker c.add_known.result
-    (λ counted.
-    subst (λ o. IsMoreBy o names before c.add_known.new.schema) (sym (stored_document c.document_meant.ensures.read c.args.of.form names c.args.of.bytes dictionary s))
-    (more_by names before c.add_known.new.schema s.document (counted s.document (stored_under c.args.of.form names c.args.of.bytes dictionary s))))
-    c.add_known.ensures.counted
+pub returns-clause-canonical : goal.returns-clause-canonical
+returns-clause-canonical c =
+    let after = c.count_or_wait.new.recount in
+    ok_and c.count_or_wait.result c.count_or_wait.ensures.names c.count_or_wait.ensures.sound (λ same sound. subst (λ (ns : List Name). IsCanonical (length ns) (all_counted after)) same (all_canonical after sound))
 
 pub returns-clause-room : goal.returns-clause-room
 returns-clause-room c =
-    let names = c.args.recount.now.names in
-    let before = c.args.recount.now.schema in
+    let r = c.args.recount.now in
+    let after = c.count_or_wait.new.recount in
     let s = c.requires.stored in
     let dictionary = c.len-known.ensures.dictionary in
-    on_ok_weaker c.add_known.result
-    (λ counted. total_more c.names_agree.ensures.values names before c.add_known.new.schema s.document (kept_in c.args.of.form names c.args.of.bytes dictionary s).whole s.short
-    (more_by names before c.add_known.new.schema s.document (counted s.document (stored_under c.args.of.form names c.args.of.bytes dictionary s))))
-    c.add_known.ensures.counted
+    on_ok_weaker c.count_or_wait.result
+    (λ more. total_more c.names_agree.ensures.values r.names (all_counted r) (all_counted after) s.document (kept_in c.args.of.now.form r.names c.args.of.now.bytes dictionary s).whole s.short
+    (subst (λ o. IsMoreBy o r.names (all_counted r) (all_counted after)) (stored_document c.document_meant.ensures.read c.args.of.now.form r.names c.args.of.now.bytes dictionary s) more))
+    c.count_or_wait.ensures.counted

@@ -4,6 +4,7 @@ use Rattle.std.proofs.lemmas.Result.{err_from_is_err_and}
 use Rattle.std.proofs.lemmas.Slice.Zip.{AllZip-long}
 use Rattle.tc_lsm_model.specs.Lists.{live}
 use Rattle.tc_component.specs.Cursors.{CursorState}
+use Rattle.tc_audit.specs.Waiting.{all_counted}
 use Rattle.tc_audit.specs.Walking.{HoldParts, IsCounting, IsUpTo}
 use Rattle.tc_audit.proofs.Outcomes.{watched_behind, watched_out, wrong_out, wrong_then}
 use Rattle.tc_audit.proofs.walk.count_entries.Goals as goal
@@ -13,9 +14,11 @@ loop-at-init g c = record {
   of = search rules;
   each = c.in_ok-cursors.ensures;
   names = c.requires.names;
+  form = c.requires.form;
+  sound = c.requires.sound;
   few = omega (arith, c.requires.none);
-  counting = subst (IsCounting c.args.component.now.index.names c.args.recount.now.schema) (sym c.requires.none) c.requires.counting;
-  counted = λ part cs whole right tells u. subst (IsUpTo c.args.component.now.index whole (live cs) 0 c.args.recount.now.schema) (sym c.requires.none) u;
+  counting = subst (IsCounting c.args.component.now.index.names (all_counted c.args.recount.now)) (sym c.requires.none) c.requires.counting;
+  counted = λ part cs whole right tells u. subst (IsUpTo c.args.component.now.index whole (live cs) 0 (all_counted c.args.recount.now)) (sym c.requires.none) u;
   faults = omega arith;
 }
 
@@ -42,6 +45,8 @@ loop-at-preserved g c =
       of = one.of;
       each = subst (HoldParts told c.args.older.now) (sym (take_at c.count_entry.new.cursors _ _ same)) one.each;
       names = one.names;
+      form = one.form;
+      sound = one.sound;
       few = one.few;
       counting = one.counting;
       counted = λ part cs whole right tells u. one.counted part cs whole right tells (l.invariant.counted part cs whole right tells u);
@@ -52,7 +57,7 @@ pub returns-clause-counted : goal.returns-clause-counted
 returns-clause-counted g c = λ part cs whole right tells u.
     let l = c.loop-at in
     let all : l.at ≡ length c.args.component.now.index.slots = let most = l.auto.at-end in let done = c.loop-at-test.false in let many = c.len-at-end.ensures in omega arith in
-    subst (λ at. IsUpTo c.args.component.now.index whole (live cs) at l.recount.schema l.recount.gained) all (l.invariant.counted part cs whole right tells u)
+    subst (λ at. IsUpTo c.args.component.now.index whole (live cs) at (all_counted l.recount) l.recount.gained) all (l.invariant.counted part cs whole right tells u)
 
 pub returns-clause-watched : goal.returns-clause-watched
 returns-clause-watched g c = record { faults = c.loop-at.invariant.faults; cause = λ failed. absurd (cc) }

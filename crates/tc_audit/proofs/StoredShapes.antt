@@ -1,0 +1,56 @@
+-- What the shape of a document tells of it: whether its names ascend, and whether it has a member `id`.
+use Rattle.std.proofs.Common.{◌≡◌, ◌∙◌, ◌||◌, Bool, true, false, not, is_some, if◌then◌else◌, List, ◌∷◌, Some, map, refl, sym, ap, subst, codes, bytes_eq}
+use Rattle.std.specs.List.{list_any}
+use Rattle.std.specs.List.Sorted.{IsStrictlySortedBy}
+use Rattle.tc_model.specs.Tree.{leaf, array, object, Items, no_items, item, Members, no_members, member, items_relabel, members_relabel, listed_members}
+use Rattle.tc_model.specs.Document.{Name, Document, Scalar, scalar_kind, name_cmp, member_at, document_shape, IsDocument, IsScalar, AreItemsOf, AreMembersOf}
+use Rattle.tc_model.specs.Stored.{IsKeyless}
+use Rattle.tc_compact.specs.Meant.{IsOrdered, AreItemsOrdered, AreMembersOrdered}
+use Rattle.tc_audit.proofs.LackedLabels.{nothing_is}
+
+-- the names of members, in their order
+abbrev listed_names : {S : Type 0} → Members Name S → List Name
+listed_names ms = map (λ m. m.0) (listed_members ms)
+
+same_names : (ms : Members Name Scalar) → listed_names (members_relabel (λ n. n) scalar_kind ms) ≡ listed_names ms
+same_names no_members = refl
+same_names (member n t ms) = ap (λ ns. n ∷ ns) (same_names ms)
+
+-- ---- whether names ascend
+
+-- those of a document ascend in its shape too
+mutual
+  pub shape_ordered : (d : Document) → IsDocument d → IsOrdered (document_shape d)
+  shape_ordered (leaf s) is = tt
+  shape_ordered (array xs) is = shape_items xs is
+  shape_ordered (object ms) is = (subst (IsStrictlySortedBy name_cmp) (sym (same_names ms)) is.0, shape_members ms is.1)
+
+  shape_items : (xs : Items Name Scalar) → AreItemsOf IsScalar xs → AreItemsOrdered (items_relabel (λ n. n) scalar_kind xs)
+  shape_items no_items is = tt
+  shape_items (item t ts) is = (shape_ordered t is.0, shape_items ts is.1)
+
+  shape_members : (ms : Members Name Scalar) → AreMembersOf IsScalar ms → AreMembersOrdered (members_relabel (λ n. n) scalar_kind ms)
+  shape_members no_members is = tt
+  shape_members (member n t ms) is = (shape_ordered t is.1, shape_members ms is.2)
+
+-- ---- whether there is a member
+
+-- the names tell whether a member has this one
+has_member : (n : Name) (ms : Members Name Scalar) → is_some (member_at n ms) ≡ list_any (λ m. bytes_eq m n) (listed_names ms)
+has_member n no_members = refl
+has_member n (member m t ms) = first (bytes_eq m n) ∙ ap (λ b. bytes_eq m n || b) (has_member n ms)
+  where
+    first : (b : Bool) → is_some (if b then Some t else member_at n ms) ≡ (b || is_some (member_at n ms))
+    first true = refl
+    first false = refl
+
+-- documents of one shape both have a member `id`, or neither has one
+pub same_keyless : (d e : Document) → document_shape d ≡ document_shape e → IsKeyless e → IsKeyless d
+same_keyless d (leaf s) same keyless = absurd keyless
+same_keyless d (array xs) same keyless = absurd keyless
+same_keyless (leaf s) (object ns) same keyless = absurd (cc)
+same_keyless (array xs) (object ns) same keyless = absurd (cc)
+same_keyless (object ms) (object ns) same keyless =
+    let shapes : members_relabel (λ n. n) scalar_kind ms ≡ members_relabel (λ n. n) scalar_kind ns = cc in
+    let names : listed_names ms ≡ listed_names ns = sym (same_names ms) ∙ ap listed_names shapes ∙ same_names ns in
+    nothing_is (member_at (codes "id") ms) (ap not (has_member (codes "id") ms ∙ ap (list_any (λ m. bytes_eq m (codes "id"))) names ∙ sym (has_member (codes "id") ns) ∙ ap is_some keyless))
