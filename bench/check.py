@@ -42,10 +42,12 @@ ONE = ['--partitions', '1']
 # The errors of a call on files, where 0 stands for half the bytes, and of an allocation; and the status where a check gives up.
 ERRORS = {'files': [errno.EIO, errno.EACCES, errno.EINTR, 0], 'memory': [errno.ENOMEM]}
 STATUS = {'files': 5, 'memory': 7}
-# Documents of every kind, with a union, items, a key that is gone and one that is written again.
+# Documents of every kind, two and two of one shape, with a union, items, a key that is gone and one that is written again.
 LINES = [
     {'op': 'upsert', 'doc': {'id': 1, 'a': 1, 'b': ['x', None, -7]}},
     {'op': 'upsert', 'doc': {'id': 2, 'a': 'é', 'c': {'a': False}}},
+    {'op': 'upsert', 'doc': {'id': 6, 'a': 2, 'b': ['y', None, 8]}},
+    {'op': 'upsert', 'doc': {'id': 7, 'a': 'z', 'c': {'a': True}}},
     {'op': 'upsert', 'doc': {'id': 300, 'b': []}},
     {'op': 'flush'},
     {'op': 'delete', 'id': 2},

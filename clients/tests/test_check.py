@@ -116,6 +116,21 @@ class RightFiles(Check):
         self.make(*self.ONE, lines=delete(2) + delete(3) + delete(4))
         self.is_one(right(0))
 
+    def test_documents_of_few_shapes(self):
+        # Shapes are known within a component, and one document takes the place of one of another shape, of the same, or none.
+        shapes = [{"a": 1}, {"a": "b"}, {"a": {"b": [1, None]}}, {}]
+        lines = b"".join(upsert(id=it, **shapes[it % 4]) for it in range(40)) + FLUSH
+        lines += b"".join(upsert(id=it, **shapes[it // 2 % 4]) for it in range(30, 60)) + b"".join(map(delete, range(5))) + FLUSH
+        lines += b"".join(upsert(id=it, **shapes[it % 4]) for it in range(20, 80, 3)) + FLUSH
+        self.make(*self.ONE, lines=lines)
+        self.is_one(right(55 + len(range(62, 80, 3))))
+
+    def test_more_shapes_than_are_known(self):
+        lines = b"".join(upsert(id=it, **{f"n{it % 3000}": it}) for it in range(6000)) + FLUSH
+        self.make(*self.ONE, "--memory", "4194304", lines=lines)
+        self.assertEqual([it.name for it in (self.folder / "data/p0").glob("c-*")], ["c-1-1"])
+        self.is_one(right(6000))
+
     def test_a_demonstration(self):
         self.assertEqual(self.run_program("data", "demo", "2000").returncode, 0)
         verdicts = self.said_of()
@@ -249,6 +264,23 @@ class WrongFiles(Check):
         self.change("c-1-1", schema + 8, b"\7")
         self.change("c-1-1", 61 + 4, b"\7")
         self.is_one(wrong(place("c-1-1", 61)))
+
+    def test_a_record_among_others_of_its_shape(self):
+        self.make(*self.ONE, lines=b"".join(upsert(id=it, a="text", b=[it]) for it in range(9)) + FLUSH)
+        content = (self.folder / "data/p0/c-1-1").read_bytes()
+        records, *_ = self.sections("c-1-1")
+        size = content.index(b"text", content.index(b"text") + 1) - content.index(b"text")
+        for at in (0, 4, 8):
+            with self.subTest(at=at):
+                # No text in UTF-8, and a tag of another kind.
+                for byte in (content.index(b"text") + size * at, records + size * at + 24):
+                    self.change("c-1-1", byte, b"\xff")
+                    self.is_one(wrong(place("c-1-1", records + size * at)))
+                    self.write("c-1-1", content)
+        # The numbers of two names change places: they do not ascend any more.
+        at = content.rindex(b"a\0\0\0\1b")
+        self.change("c-1-1", at, b"b\0\0\0\1a")
+        self.is_one(wrong(place("c-1-1", records)))
 
     def test_a_partition_does_not_hide_the_next(self):
         self.make("--partitions", "2", "--merge", "8", lines=upsert(id=0) + upsert(id=1) + FLUSH)
