@@ -1,6 +1,6 @@
 -- How the reads of a record, and those of a file that is loaded, are counted.
 use Rattle.std.proofs.Common.{◌≡◌, ◌⊎◌, ◌≤◌, ◌+◌, ℕ, List, Result, Ok, Err, subst, sym, inl, inr, arith}
-use Rattle.std.specs.Prelude.{IsErrOf, OnOk}
+use Rattle.std.specs.Prelude.{IsErrOf}
 use Rattle.tc_bytes.specs.Counts.{next_count}
 use Rattle.tc_store.specs.Counted.{Counts, IsCountedOnce}
 use Rattle.tc_store.specs.Judging.{IsNoDisk, IfDamaged}
@@ -17,20 +17,29 @@ no_fault (Err Memory) none is = cc
 pub read_once : {X : Type 0} (r : Result X ReadFault) (Failed Done : Type 0) (old new : Counts) → IsNoDisk r → Done → IsCountedOnce Failed Done old new → IsCountedOnce (IsErrOf r Disk) (IsErrOf r Memory → ⊥) old new
 read_once r Failed Done old new none done is = record { faults = is.faults; cause = λ failed. absurd (no_fault r none failed); done = λ there. is.done done; reads = is.reads }
 
--- nor does what is made of bytes that were held
-pub held_once : {X : Type 0} (r : Result X ReadFault) (Failed Held Fine : Type 0) (old new : Counts) → IsNoDisk r → Fine → IsCountedOnce Failed ((Held → ⊥) × Fine) old new
+-- ---- bytes that were held are judged, and the fault is handed on
+
+no_disk_on : (X Y : Type 0) (fault : ReadFault) → IsNoDisk {X = X} (Err fault) → IsNoDisk {X = Y} (Err fault)
+no_disk_on X Y Disk none = none
+no_disk_on X Y (Damaged place bytes) none = tt
+no_disk_on X Y Memory none = tt
+
+damage_on : (X Y : Type 0) (fault : ReadFault) (P Q : ℕ → List ℕ → Type 0) → ((place : ℕ) (kept : List ℕ) → P place kept → Q place kept) → IfDamaged {X = X} (Err fault) P → IfDamaged {X = Y} (Err fault) Q
+damage_on X Y Disk P Q f is = tt
+damage_on X Y (Damaged place kept) P Q f is = f place kept is
+damage_on X Y Memory P Q f is = tt
+
+-- what is made of them needs no second read
+pub held_once : {Y : Type 0} (X : Type 0) (r : Result Y ReadFault) (fault : ReadFault) (Failed Held Fine : Type 0) (old new : Counts) → r ≡ Err fault → IsNoDisk {X = X} (Err fault) → Fine → IsCountedOnce Failed ((Held → ⊥) × Fine) old new
     → IsCountedOnce (IsErrOf r Disk) ((Held → ⊥) × (IsErrOf r Memory → ⊥)) old new
-held_once r Failed Held Fine old new none fine is = record { faults = is.faults; cause = λ failed. absurd (no_fault r none failed); done = λ there. is.done (there.0, fine); reads = is.reads }
+held_once {Y} X r fault Failed Held Fine old new same none fine is =
+    record { faults = is.faults; cause = λ failed. absurd (no_fault r (subst (λ s. IsNoDisk s) (sym same) (no_disk_on X Y fault none)) failed); done = λ there. is.done (there.0, fine); reads = is.reads }
 
-pub ok_always : {X : Type 0} (r : Result X ReadFault) (P : Type 0) → P → OnOk r P
-ok_always (Ok x) P p = p
-ok_always (Err e) P p = tt
-
-pub damage_told : {X : Type 0} (r : Result X ReadFault) (P : ℕ → List ℕ → Type 0) (Q : List ℕ → Type 0) (bytes : List ℕ) → ((place : ℕ) (kept : List ℕ) → P place kept → kept ≡ bytes) → Q bytes → IfDamaged r P → IfDamaged r (λ place kept. Q kept)
-damage_told (Ok x) P Q bytes same q is = tt
-damage_told (Err Disk) P Q bytes same q is = tt
-damage_told (Err (Damaged place kept)) P Q bytes same q is = subst Q (sym (same place kept is)) q
-damage_told (Err Memory) P Q bytes same q is = tt
+-- their damage is that of the file
+pub damage_told : {Y : Type 0} (X : Type 0) (r : Result Y ReadFault) (fault : ReadFault) (P : ℕ → List ℕ → Type 0) (Q : List ℕ → Type 0) (bytes : List ℕ) → r ≡ Err fault → ((place : ℕ) (kept : List ℕ) → P place kept → kept ≡ bytes) → Q bytes
+    → IfDamaged {X = X} (Err fault) P → IfDamaged r (λ place kept. Q kept)
+damage_told {Y} X r fault P Q bytes same those q is =
+    subst (λ s. IfDamaged s (λ place kept. Q kept)) (sym same) (damage_on X Y fault P (λ place kept. Q kept) (λ place kept at. subst Q (sym (those place kept at)) q) is)
 
 -- ---- a file that is loaded
 

@@ -1,9 +1,9 @@
 //! Records of a component, read through a window.
 
-ghost use Rattle.std.specs.Prelude.{◌≡◌, ◌<◌, ◌≤◌, ◌+◌, ◌-◌, ◌^◌, ◌↔◌, max, min, length, take, drop, IfSome, IsErrOf, IsTrue, OnOk};
+ghost use Rattle.std.specs.Prelude.{◌≡◌, ◌<◌, ◌≤◌, ◌+◌, ◌-◌, ◌^◌, ◌↔◌, max, min, length, take, drop, IfSome, IfOk, IsErrOf, IsTrue, OnOk};
 ghost use Rattle.std.specs.Result.{IsOk};
 ghost use Rattle.tc_store.specs.Counted.{IsCountedOnce};
-ghost use Rattle.tc_store.specs.Judging.{IfDamaged, IsNoDamage};
+ghost use Rattle.tc_store.specs.Judging.{IfDamaged, IsNoDamage, IsNoDisk};
 ghost use Rattle.tc_component.specs.Cursors.{holds_nothing, HoldsPart, HasBytes, IsWindow, part_held, HasRecord, BeginsAtRecord, record_held};
 ghost use Rattle.tc_component.specs.Layout.{window_size, directory_place};
 ghost use Rattle.tc_component.specs.Spelling.{sizes_in};
@@ -15,6 +15,7 @@ use crate::found::Place;
 use crate::layout::WINDOW_LEN;
 use std::alloc::Global;
 use std::marker::Model;
+use tc_record::RecordRef;
 use tc_store::{Frozen, ReadFault};
 
 /// Reads records of one component whose places ascend, many by one read. Contracts see the bytes that it holds and where
@@ -102,14 +103,8 @@ impl RecordCursor {
         ensures counted { IsCountedOnce (IsErrOf result ReadFault.Disk) ((HasBytes begin count self.old → ⊥) × (IsErrOf result ReadFault.Memory → ⊥)) (F.Watch.counts watch.old) (F.Watch.counts watch.new) }
     {
         self.hold(component, begin, count, watch)?;
-        let bytes = self.part(begin, count);
-        judge(
-            self.alloc,
-            component.version(),
-            component.names().len(),
-            begin,
-            bytes,
-        )
+        self.judged(component, begin, count)?;
+        Ok(())
     }
 
     /// The record of the entry at a place, which is held. Takes no memory.
@@ -122,6 +117,30 @@ impl RecordCursor {
     {
         let (begin, count) = component.record_range(place);
         self.part(begin, count)
+    }
+
+    /// The record that so many bytes from a place on are, which are held, judged as `fetch` does. Takes memory where they are
+    /// damage.
+    pub fn judged<F: Frozen>(
+        &self,
+        component: &Component<F>,
+        begin: u64,
+        count: u32,
+    ) -> Result<RecordRef<'_>, ReadFault>
+        requires { HasBytes begin count self.now }
+        ensures same { IfOk result (λ found. (found.bytes ≡ part_held begin count self.now) × (found.form ≡ component.now.index.version)) }
+        ensures found { IfOk result (λ found. IsRecordWithin component.now.index.version (length component.now.index.names) (part_held begin count self.now)) }
+        ensures damaged { IfDamaged result (λ at kept. (at ≡ begin) × (kept ≡ part_held begin count self.now) × (length kept ≡ count) × (IsRecordWithin component.now.index.version (length component.now.index.names) kept → ⊥)) }
+        ensures no_disk { IsNoDisk result }
+    {
+        let bytes = self.part(begin, count);
+        judge(
+            self.alloc,
+            component.version(),
+            component.names().len(),
+            begin,
+            bytes,
+        )
     }
 
     /// Holds so many bytes of the records from a place on, by no read where they are held, and by one where they are not.

@@ -1,6 +1,6 @@
 //! The record that is read at the place of an entry.
 
-ghost use Rattle.std.specs.Prelude.{◌≡◌, ◌↔◌, IfOk, OnOk, IsTrue};
+ghost use Rattle.std.specs.Prelude.{◌≡◌, IfOk, IfSome, IfNone};
 ghost use Rattle.tc_store.specs.Judging.{IfDamaged, IsNoDisk};
 ghost use Rattle.tc_component.specs.Fetching.{IsRecordWithin};
 
@@ -21,41 +21,50 @@ pub(crate) fn record_of(
     ensures damaged { IfDamaged result (λ at kept. (at ≡ place) × (kept ≡ bytes.items) × (IsRecordWithin version limit kept → ⊥)) }
     ensures no_disk { IsNoDisk result }
 {
-    if is_record_within(version, limit, &bytes) {
-        Ok(Bytes::of(bytes))
-    } else {
-        Err(ReadFault::Damaged {
+    match record_within(version, limit, &bytes) {
+        Some(_) => Ok(Bytes::of(bytes)),
+        None => Err(ReadFault::Damaged {
             place,
             bytes: Bytes::of(bytes),
-        })
+        }),
     }
 }
 
-/// That these bytes, which stand at a place, are a record of the form of a version whose numbers are below a limit. Takes
-/// memory where they are not.
+/// The record of the form of a version that these bytes are, whose numbers are below a limit, or the damage at the place that
+/// they stand at. Takes memory where they are damage.
 pub(crate) fn judge(
     alloc: Global,
     version: u8,
     limit: u32,
     place: u64,
     bytes: &[u8],
-) -> Result<(), ReadFault>
-    ensures found { OnOk result (IsRecordWithin version limit bytes.now) }
+) -> Result<RecordRef<'_>, ReadFault>
+    ensures same { IfOk result (λ found. (found.bytes ≡ bytes.now) × (found.form ≡ version)) }
+    ensures found { IfOk result (λ found. IsRecordWithin version limit bytes.now) }
     ensures damaged { IfDamaged result (λ at kept. (at ≡ place) × (kept ≡ bytes.now) × (IsRecordWithin version limit kept → ⊥)) }
     ensures no_disk { IsNoDisk result }
 {
-    if is_record_within(version, limit, bytes) {
-        Ok(())
-    } else {
-        Err(damaged(alloc, place as usize, bytes))
+    match record_within(version, limit, bytes) {
+        Some(found) => Ok(found),
+        None => Err(damaged(alloc, place as usize, bytes)),
     }
 }
 
-fn is_record_within(version: u8, limit: u32, bytes: &[u8]) -> bool
-    ensures { IsTrue result ↔ IsRecordWithin version limit bytes.now }
+/// The record of the form of a version that bytes are, if its numbers are below a limit. Takes no memory.
+#[inline(always)]
+fn record_within(version: u8, limit: u32, bytes: &[u8]) -> Option<RecordRef<'_>>
+    ensures same { IfSome result (λ found. (found.bytes ≡ bytes.now) × (found.form ≡ version)) }
+    ensures found { IfSome result (λ found. IsRecordWithin version limit bytes.now) }
+    ensures none { IfNone result (IsRecordWithin version limit bytes.now → ⊥) }
 {
     match RecordRef::numbered(bytes, version) {
-        Some(record) => record.numbers_below(limit),
-        None => false,
+        Some(found) => {
+            if found.numbers_below(limit) {
+                Some(found)
+            } else {
+                None
+            }
+        }
+        None => None,
     }
 }
