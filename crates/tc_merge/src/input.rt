@@ -207,33 +207,29 @@ fn put_live<S: Store>(
     ensures watched { IsWatched (IsErrOf result MergeFault.Disk) (S.Watch.counts watch.old) (S.Watch.counts watch.new) }
 {
     let Span { key, begin, count } = entry;
-    if let Err(fault) = input
-        .cursor
-        .read_part(&input.component, begin, count, watch)
-    {
-        let file = input.component.file_name();
-        return Err(of_read(file, fault));
+    if let Err(fault) = input.cursor.hold(&input.component, begin, count, watch) {
+        return Err(of_read(input.component.file_name(), fault));
     }
-    let version = input.component.version();
-    let bytes = input.cursor.part(begin, count);
-    put_record(version, key, bytes, &mut input.packed, builder, watch)
+    match input.cursor.judged(&input.component, begin, count) {
+        Ok(found) => put_record(key, found, &mut input.packed, builder, watch),
+        Err(fault) => Err(of_read(input.component.file_name(), fault)),
+    }
 }
 
-/// Pushes a record of a file of a version: one of version 1 with the numbers of its columns in bits, and another as it is.
+/// Pushes a record as it is written now: one of form 1 with the numbers of its columns in bits, and another as it is.
 fn put_record<D: Device>(
-    version: u8,
     key: u64,
-    bytes: &[u8],
+    found: RecordRef<'_>,
     packed: &mut Vec<u8>,
     builder: &mut Builder<D>,
     watch: &mut D::Watch,
 ) -> Result<(), MergeFault>
-    requires record { (limit : ℕ) × IsRecordWithin version limit bytes.now }
+    requires found { (limit : ℕ) × IsRecordWithin found.form limit found.bytes }
     requires going_on { builder.old.failed ≡ false }
 
     ensures pushed { OnOk result ((rows : List Row) → HasRows (D.history builder.old.device) builder.old rows
-        → HasRows (D.history builder.new.device) builder.new (rows ++ (key, Some (rewritten version bytes.now)) ∷ [])) }
-    ensures judged { OnOk result ((limit : ℕ) → IsRecordWithin version limit bytes.now → IsRecordWithin written_version limit (rewritten version bytes.now)) }
+        → HasRows (D.history builder.new.device) builder.new (rows ++ (key, Some (rewritten found.entry.form found.entry.bytes)) ∷ [])) }
+    ensures judged { OnOk result ((limit : ℕ) → IsRecordWithin found.entry.form limit found.entry.bytes → IsRecordWithin written_version limit (rewritten found.entry.form found.entry.bytes)) }
     ensures harmed { IfErr result IsHarmless }
     ensures head { builder.new.head ≡ builder.old.head }
     ensures not_failed { OnOk result (builder.new.failed ≡ false) }
@@ -241,10 +237,11 @@ fn put_record<D: Device>(
     ensures moments { LeavesOnly IsClosed (D.history builder.old.device) (D.history builder.new.device) }
     ensures watched { IsCounted (IsErrOf result MergeFault.Disk) (D.Watch.counts watch.old) (D.Watch.counts watch.new) }
 {
-    if version != NUMBERED_FORM {
-        return push(key, Some(bytes), builder, watch);
+    let form = found.form();
+    if form != NUMBERED_FORM {
+        return push(key, Some(found.bytes()), builder, watch);
     }
-    match repack(RecordRef::known(bytes), packed) {
+    match repack(found, packed) {
         Ok(()) => push(key, Some(packed.as_slice()), builder, watch),
         Err(_) => Err(MergeFault::Memory),
     }
