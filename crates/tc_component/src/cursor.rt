@@ -129,7 +129,7 @@ impl RecordCursor {
     ) -> Result<RecordRef<'_>, ReadFault>
         requires { HasBytes begin count self.now }
         ensures same { IfOk result (λ found. (found.bytes ≡ part_held begin count self.now) × (found.form ≡ component.now.index.version)) }
-        ensures found { IfOk result (λ found. IsRecordWithin component.now.index.version (length component.now.index.names) (part_held begin count self.now)) }
+        ensures found { OnOk result (IsRecordWithin component.now.index.version (length component.now.index.names) (part_held begin count self.now)) }
         ensures damaged { IfDamaged result (λ at kept. (at ≡ begin) × (kept ≡ part_held begin count self.now) × (length kept ≡ count) × (IsRecordWithin component.now.index.version (length component.now.index.names) kept → ⊥)) }
         ensures no_disk { IsNoDisk result }
     {

@@ -1,6 +1,6 @@
 //! The record that is read at the place of an entry.
 
-ghost use Rattle.std.specs.Prelude.{◌≡◌, IfOk, IfSome, IfNone};
+ghost use Rattle.std.specs.Prelude.{◌≡◌, IfOk, IfSome, IfNone, OnOk, OnSome};
 ghost use Rattle.tc_store.specs.Judging.{IfDamaged, IsNoDisk};
 ghost use Rattle.tc_component.specs.Fetching.{IsRecordWithin};
 
@@ -40,7 +40,7 @@ pub(crate) fn judge(
     bytes: &[u8],
 ) -> Result<RecordRef<'_>, ReadFault>
     ensures same { IfOk result (λ found. (found.bytes ≡ bytes.now) × (found.form ≡ version)) }
-    ensures found { IfOk result (λ found. IsRecordWithin version limit bytes.now) }
+    ensures found { OnOk result (IsRecordWithin version limit bytes.now) }
     ensures damaged { IfDamaged result (λ at kept. (at ≡ place) × (kept ≡ bytes.now) × (IsRecordWithin version limit kept → ⊥)) }
     ensures no_disk { IsNoDisk result }
 {
@@ -54,17 +54,13 @@ pub(crate) fn judge(
 #[inline(always)]
 fn record_within(version: u8, limit: u32, bytes: &[u8]) -> Option<RecordRef<'_>>
     ensures same { IfSome result (λ found. (found.bytes ≡ bytes.now) × (found.form ≡ version)) }
-    ensures found { IfSome result (λ found. IsRecordWithin version limit bytes.now) }
+    ensures found { OnSome result (IsRecordWithin version limit bytes.now) }
     ensures none { IfNone result (IsRecordWithin version limit bytes.now → ⊥) }
 {
-    match RecordRef::numbered(bytes, version) {
-        Some(found) => {
-            if found.numbers_below(limit) {
-                Some(found)
-            } else {
-                None
-            }
-        }
-        None => None,
+    let found = RecordRef::numbered(bytes, version)?;
+    if found.numbers_below(limit) {
+        Some(found)
+    } else {
+        None
     }
 }
