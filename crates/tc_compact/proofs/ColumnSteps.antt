@@ -8,12 +8,6 @@ pub four_put : (o o1 o2 o3 o4 a b c d : List ℕ) → o1 ≡ o ++ a → o2 ≡ o
 four_put o o1 o2 o3 o4 a b c d p1 p2 p3 p4 =
     p4 ∙ ap (λ x. x ++ d) (p3 ∙ ap (λ x. x ++ c) (p2 ∙ ap (λ x. x ++ b) p1)) ∙ append_assoc ((o ++ a) ++ b) c d ∙ append_assoc (o ++ a) b (c ++ d) ∙ append_assoc o a (b ++ (c ++ d))
 
--- and one more
-pub fifth_put : (o o4 o5 a b c d e : List ℕ) → o4 ≡ o ++ (a ++ (b ++ (c ++ d))) → o5 ≡ o4 ++ e → o5 ≡ o ++ (a ++ (b ++ (c ++ (d ++ e))))
-fifth_put o o4 o5 a b c d e four last =
-    last ∙ ap (λ x. x ++ e) four ∙ append_assoc o (a ++ (b ++ (c ++ d))) e
-    ∙ ap (λ x. o ++ x) (append_assoc a (b ++ (c ++ d)) e ∙ ap (λ x. a ++ x) (append_assoc b (c ++ d) e ∙ ap (λ x. b ++ x) (append_assoc c d e)))
-
 pub same_four : {a b c d e f g h : List ℕ} → a ≡ e → b ≡ f → c ≡ g → d ≡ h → a ++ (b ++ (c ++ d)) ≡ e ++ (f ++ (g ++ h))
 same_four p q r s = rw (p, q, r, s) refl
 

@@ -1,12 +1,13 @@
 //! A record that is written by the parts of another one, as a form spells them.
 
-ghost use Rattle.std.specs.Prelude.{◌≡◌, ◌<◌, ◌^◌, ◌++◌, IfOk, OnOk, length};
+ghost use Rattle.std.specs.Prelude.{◌≡◌, ◌<◌, ◌^◌, ◌++◌, ◌∷◌, [], IfOk, OnOk, length};
+ghost use Rattle.std.specs.Int.{w32, to_be_bytes};
 ghost use Rattle.tc_record.specs.Record.{labels, greatest as greatest_of, spelling_of, column_in};
 ghost use Rattle.tc_compact.specs.Layout.{parts_of, values, counts, front};
 
 use std::alloc::Global;
 use tc_bits::ColumnWriter;
-use tc_bytes::{Memory, put_u32};
+use tc_bytes::Memory;
 use tc_record::{Column, RecordRef, column_bits, column_bytes, least_width};
 
 /// How many bytes the columns before the slots take in a form.
@@ -44,26 +45,27 @@ pub(crate) fn put_front(
 ) -> Result<(), Memory>
     ensures { OnOk result (out.new.items ≡ out.old.items ++ front (spelling_of form) form len (parts_of from.now.tokens) (length (labels from.now.tokens)) slot_width) }
 {
-    put_u32(out, len)?;
-    out.push(form)?;
-    put_counts(form, from, out)?;
-    out.push(slot_width)?;
+    out.extend_from_slice(&header_of(len, form, from, slot_width))?;
     put_values(form, from, out)?;
     Ok(())
 }
 
-/// Appends the counts of a header. Errs only for want of memory.
-fn put_counts(form: u8, from: &RecordRef<'_>, out: &mut Vec<u8>) -> Result<(), Memory>
-    ensures { OnOk result (out.new.items ≡ out.old.items ++ counts (spelling_of form) (parts_of from.now.tokens) (length (labels from.now.tokens))) }
+/// The header of a record in a form.
+fn header_of(len: u32, form: u8, from: &RecordRef<'_>, slot_width: u8) -> [u8; 23]
+    ensures { result ≡ to_be_bytes w32 len ++ (form ∷ (counts (spelling_of form) (parts_of from.now.tokens) (length (labels from.now.tokens)) ++ slot_width ∷ [])) }
 {
-    let texts = from.text_count();
-    let width = least_width(form, texts, from.longest_text());
-    put_u32(out, from.token_count())?;
-    put_u32(out, from.fixed_size())?;
-    put_u32(out, texts)?;
-    out.push(width)?;
-    put_u32(out, from.member_count())?;
-    Ok(())
+    let text_count = from.text_count();
+    let width = least_width(form, text_count, from.longest_text());
+    let total = len.to_be_bytes();
+    let tags = from.token_count().to_be_bytes();
+    let fixed = from.fixed_size().to_be_bytes();
+    let texts = text_count.to_be_bytes();
+    let members = from.member_count().to_be_bytes();
+    [
+        total[0], total[1], total[2], total[3], form, tags[0], tags[1], tags[2], tags[3], fixed[0],
+        fixed[1], fixed[2], fixed[3], texts[0], texts[1], texts[2], texts[3], width, members[0],
+        members[1], members[2], members[3], slot_width,
+    ]
 }
 
 /// Appends the columns before the slots. Errs only for want of memory.
