@@ -3,13 +3,9 @@ use Rattle.std.proofs.Common.{◌≡◌, ◌∙◌, ℕ, List, ◌∷◌, ◌++�
 use Rattle.tc_bits.specs.Bits.{Waiting, column, written}
 use Rattle.tc_bits.proofs.Joined.{AreBelow}
 
--- four parts, one behind the other
-pub four_put : (o o1 o2 o3 o4 a b c d : List ℕ) → o1 ≡ o ++ a → o2 ≡ o1 ++ b → o3 ≡ o2 ++ c → o4 ≡ o3 ++ d → o4 ≡ o ++ (a ++ (b ++ (c ++ d)))
-four_put o o1 o2 o3 o4 a b c d p1 p2 p3 p4 =
-    p4 ∙ ap (λ x. x ++ d) (p3 ∙ ap (λ x. x ++ c) (p2 ∙ ap (λ x. x ++ b) p1)) ∙ append_assoc ((o ++ a) ++ b) c d ∙ append_assoc (o ++ a) b (c ++ d) ∙ append_assoc o a (b ++ (c ++ d))
-
-pub same_four : {a b c d e f g h : List ℕ} → a ≡ e → b ≡ f → c ≡ g → d ≡ h → a ++ (b ++ (c ++ d)) ≡ e ++ (f ++ (g ++ h))
-same_four p q r s = rw (p, q, r, s) refl
+-- three parts, one behind the other
+pub three_put : (o o1 o2 o3 a b c : List ℕ) → o1 ≡ o ++ a → o2 ≡ o1 ++ b → o3 ≡ o2 ++ c → o3 ≡ o ++ (a ++ (b ++ c))
+three_put o o1 o2 o3 a b c p1 p2 p3 = p3 ∙ ap (λ x. x ++ c) (p2 ∙ ap (λ x. x ++ b) p1) ∙ append_assoc (o ++ a) b c ∙ append_assoc o a (b ++ c)
 
 -- before the first number
 pub column_begun : (w : Waiting) (bits : ℕ) (out ns all : List ℕ) → w.width ≡ bits → AreBelow bits ns → ((ks : List ℕ) → written w ks ≡ column bits ks) → column bits ns ≡ all → AreBelow w.width ns × (out ++ written w ns ≡ out ++ all)

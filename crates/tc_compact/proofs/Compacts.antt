@@ -52,7 +52,7 @@ named_document r (inr one) named = absurd (both_ways r.named one.1.0 named)
 -- ---- the columns of a record
 
 -- the bytes of a record are those of its tokens
-record_spelled : (r : Record) → Spells r → r.bytes ≡ record_in (spelling_of r.form) r.form r.tokens (slots r.tokens) (name_bytes r.tokens)
+pub record_spelled : (r : Record) → Spells r → r.bytes ≡ record_in (spelling_of r.form) r.form r.tokens (slots r.tokens) (name_bytes r.tokens)
 record_spelled r (inl (d, (named, is, tokens, form))) =
     is.spelled ∙ record_of-keyed d ∙ ap (λ us. record_in in_bytes 0 us (slots us) (name_bytes us)) (sym tokens) ∙ ap (λ f. record_in (spelling_of f) f r.tokens (slots r.tokens) (name_bytes r.tokens)) (sym form)
 record_spelled r (inr (n, (unnamed, is, tokens, told))) =

@@ -8,6 +8,7 @@ pub mod Room
 pub mod Agreeing
 pub mod NamedSizes
 mod Repacks
+mod Cut
 mod Orders
 mod OutlineSteps
 mod Outlines

@@ -1,10 +1,11 @@
 //! A record that is written by the parts of another one, as a form spells them.
 
-ghost use Rattle.std.specs.Prelude.{◌≡◌, ◌<◌, ◌^◌, ◌++◌, ◌∷◌, [], IfOk, OnOk, length};
+ghost use Rattle.std.specs.Prelude.{◌≡◌, ◌<◌, ◌^◌, ◌++◌, ◌∷◌, [], IfOk, OnOk, length, map};
 ghost use Rattle.std.specs.Int.{w32, to_be_bytes};
-ghost use Rattle.tc_record.specs.Record.{labels, greatest as greatest_of, spelling_of, column_in};
+ghost use Rattle.tc_record.specs.Record.{texts, labels, greatest as greatest_of, spelling_of, column_in};
 ghost use Rattle.tc_compact.specs.Layout.{parts_of, values, counts, front};
 
+use crate::cutting::{lengths_in_bytes, tags_and_fixed};
 use std::alloc::Global;
 use tc_bits::ColumnWriter;
 use tc_bytes::Memory;
@@ -72,10 +73,38 @@ fn header_of(len: u32, form: u8, from: &RecordRef<'_>, slot_width: u8) -> [u8; 2
 fn put_values(form: u8, from: &RecordRef<'_>, out: &mut Vec<u8>) -> Result<(), Memory>
     ensures { OnOk result (out.new.items ≡ out.old.items ++ values (spelling_of form) (parts_of from.now.tokens)) }
 {
-    out.extend_from_slice(from.tags())?;
-    out.extend_from_slice(from.fixed())?;
-    put_column(form, from.text_lengths(), from.longest_text(), out)?;
+    out.extend_from_slice(tags_and_fixed(from))?;
+    put_lengths(form, from, out)?;
     out.extend_from_slice(from.texts())?;
+    Ok(())
+}
+
+/// Appends the lengths of texts. Errs only for want of memory.
+fn put_lengths(form: u8, from: &RecordRef<'_>, out: &mut Vec<u8>) -> Result<(), Memory>
+    ensures { OnOk result (out.new.items ≡ out.old.items ++ column_in (spelling_of form) (map length (texts from.now.tokens))) }
+{
+    let longest = from.longest_text();
+    match lengths_in_bytes(from) {
+        Some(lengths) => put_bytes(form, lengths, longest, out),
+        None => put_column(form, from.text_lengths(), longest, out),
+    }
+}
+
+/// Appends a column of numbers that are a byte each, of which this is the greatest. Errs only for want of memory.
+pub(crate) fn put_bytes(
+    form: u8,
+    numbers: &[u8],
+    greatest: u32,
+    out: &mut Vec<u8>,
+) -> Result<(), Memory>
+    requires { greatest_of numbers.now ≡ greatest }
+    ensures { OnOk result (out.new.items ≡ out.old.items ++ column_in (spelling_of form) numbers.now) }
+{
+    let mut writer = ColumnWriter::of(column_bits(form, greatest));
+    for number in numbers {
+        writer.push(u32::from(*number), out)?;
+    }
+    writer.end(out)?;
     Ok(())
 }
 

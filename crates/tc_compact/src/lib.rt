@@ -2,6 +2,7 @@
 #![tactic(auto)]
 
 mod compacting;
+mod cutting;
 mod decoding;
 mod dictionary;
 mod expanding;

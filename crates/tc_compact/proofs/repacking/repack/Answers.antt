@@ -16,11 +16,6 @@ overflow_cast-len c =
     let slots = c.column_bytes-slots.ensures.len ns (sym tree.members ∙ sym c.member_count-members.ensures) most in
     omega (arith, repacked_short r c.bytes-bytes.ensures.spells c.requires, slots, c.values_len.ensures.len, whole_sum in_bits 2 (parts_of r.tokens) ns [])
 
-pub put_column-requires : goal.put_column-requires
-put_column-requires c =
-    let tree = form1_tree c.args.of c.bytes-bytes.ensures.spells c.requires in
-    ap greatest (c.slots.ensures tree.tree tree.tokens) ∙ sym (c.greatest_slot-greatest.ensures tree.tree tree.tokens)
-
 pub returns : goal.returns
 returns c =
     let r = c.args.of in
@@ -33,10 +28,9 @@ returns c =
     let most : greatest ns ≡ c.greatest_slot-greatest.result = ap greatest tree.numbers ∙ sym (c.greatest_slot-greatest.ensures tree.tree tree.tokens) in
     let slots = c.column_bytes-slots.ensures.len ns many most in
     let least = width_told in_bits ns c.member_count-members.result c.greatest_slot-greatest.result _ many most c.least_width-width.ensures in
-    let column_is : c.slots.result ≡ ns = c.slots.ensures tree.tree tree.tokens ∙ sym tree.numbers in
-    let written : c.put_column.new.out.items ≡ whole in_bits 2 p ns [] =
+    let written : c.put_packed_slots.new.out.items ≡ whole in_bits 2 p ns [] =
     written_whole in_bits 2 p ns [] begun _ _ _ _ (omega (arith, slots, c.values_len.ensures.len, whole_sum in_bits 2 p ns [])) tree.members least (alone c.in_ok-put_front.ensures c.clear.ensures.items)
-    (c.in_ok-put_column.ensures ∙ ap (λ ks. begun ++ column_in in_bits ks) column_is ∙ ap (λ bs. begun ++ bs) (sym (append-nil (column_in in_bits ns)))) in
+    (c.in_ok-put_packed_slots.ensures ∙ ap (λ bs. begun ++ bs) (sym (append-nil (column_in in_bits ns)))) in
     is_repacked r _ spells c.requires written
   where
     alone : {before front out : List ℕ} → out ≡ before ++ front → before ≡ [] → out ≡ front
