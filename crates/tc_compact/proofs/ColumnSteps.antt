@@ -1,5 +1,5 @@
 -- What is written part by part, and a column number by number.
-use Rattle.std.proofs.Common.{◌≡◌, ◌∙◌, ℕ, List, ◌∷◌, ◌++◌, refl, sym, ap, subst, append_assoc}
+use Rattle.std.proofs.Common.{◌≡◌, ◌∙◌, ℕ, List, ◌∷◌, ◌++◌, sym, ap, subst, append_assoc}
 use Rattle.tc_bits.specs.Bits.{Waiting, column, written}
 use Rattle.tc_bits.proofs.Joined.{AreBelow}
 

@@ -1,4 +1,4 @@
-use Rattle.std.proofs.Common.{◌∙◌, ◌+◌, ◌++◌, [], sym, ap, arith, append-nil}
+use Rattle.std.proofs.Common.{◌∙◌, ◌++◌, [], sym, ap, arith, append-nil}
 use Rattle.tc_record.specs.Record.{spelling_of, column_in}
 use Rattle.tc_record.proofs.NumberColumns.{width_told}
 use Rattle.tc_compact.specs.Layout.{parts_of}

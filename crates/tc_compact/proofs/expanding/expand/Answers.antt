@@ -1,4 +1,4 @@
-use Rattle.std.proofs.Common.{◌≡◌, ◌∙◌, false, sym, ap, subst, inr}
+use Rattle.std.proofs.Common.{◌≡◌, ◌∙◌, sym, ap, subst, inr}
 use Rattle.std.proofs.lemmas.Bool.{both_ways}
 use Rattle.tc_record.specs.Record.{IsRecordOf}
 use Rattle.tc_record.specs.Borrowed.{Record}
