@@ -1,11 +1,9 @@
 -- Where the columns of a record lie in its bytes, and that a column of bytes is its numbers.
 use Rattle.std.proofs.Common.{◌≡◌, ◌∙◌, ℕ, ◌+◌, ◌<◌, List, [], ◌∷◌, ◌++◌, length, map, drop, refl, sym, ap, arith, append_assoc, append-nil}
-use Rattle.std.specs.Int.{w32, to_be_bytes}
 use Rattle.std.proofs.Math.Nat.{mod-eq_of_lt}
 use Rattle.std.proofs.lemmas.Bool.Decides.{nat_tests}
-use Rattle.std.proofs.lemmas.List.{drop_at}
 use Rattle.tc_record.specs.Preorder.{tokens_of}
-use Rattle.tc_record.specs.Record.{greatest, numbers, width_of, numbered_form, packed_form, tags, fixed, texts, labels, joined, header_size, in_bytes, spelling_of, width_in, column_in, body_in}
+use Rattle.tc_record.specs.Record.{greatest, numbers, width_of, numbered_form, packed_form, tags, fixed, texts, labels, joined, header_size, in_bytes, spelling_of, width_in, column_in}
 use Rattle.tc_record.specs.Borrowed.{Record, Spells}
 use Rattle.tc_record.proofs.Spelled.{slots, names}
 use Rattle.tc_compact.specs.Layout.{parts_of, values, front}
@@ -14,55 +12,34 @@ use Rattle.tc_compact.proofs.Compacts.{record_spelled}
 use Rattle.tc_compact.proofs.Laid.{record_laid}
 use Rattle.tc_compact.proofs.Repacks.{form1_tree}
 
--- behind the header
-pub record CutOf (r : Record) : Type 0 where
-  pub head : List ℕ
-  pub headed : length head ≡ header_size
-  pub body : r.bytes ≡ head ++ body_in (spelling_of r.form) r.tokens (slots r.tokens) (names r.tokens)
-
-pub cut_of : (r : Record) → Spells r → CutOf r
-cut_of r spells =
-    let s = spelling_of r.form in
-    let ts = r.tokens in
-    let lengths = map length (texts ts) in
-    let content = body_in s ts (slots ts) (names ts) in
-    record {
-      head = to_be_bytes w32 (header_size + length content) ++ (r.form ∷ (to_be_bytes w32 (length (tags ts)) ++ (to_be_bytes w32 (length (fixed ts)) ++ (to_be_bytes w32 (length lengths) ++ (width_in s lengths ∷ (to_be_bytes w32 (length (slots ts)) ++ (width_in s (slots ts) ∷ [])))))));
-      headed = refl;
-      body = record_spelled r spells;
-    }
-
--- all behind the fixed bytes, and behind the lengths of texts
+-- all behind the lengths of texts, and all behind the fixed bytes
 abbrev pub rest : Record → List ℕ
 rest r = joined (texts r.tokens) ++ (column_in (spelling_of r.form) (slots r.tokens) ++ names r.tokens)
 
 abbrev pub columns : Record → List ℕ
 columns r = column_in (spelling_of r.form) (map length (texts r.tokens)) ++ rest r
 
+-- what stands behind the header
 pub body_cut : (r : Record) (bytes : List ℕ) → Spells r → bytes ≡ r.bytes → drop header_size bytes ≡ (tags r.tokens ++ fixed r.tokens) ++ columns r
-body_cut r bytes spells same =
-    let cut = cut_of r spells in
-    ap (drop header_size) (same ∙ cut.body) ∙ drop_at cut.head _ header_size cut.headed ∙ sym (append_assoc (tags r.tokens) (fixed r.tokens) (columns r))
+body_cut r bytes spells same = ap (drop header_size) (same ∙ record_spelled r spells) ∙ sym (append_assoc (tags r.tokens) (fixed r.tokens) (columns r))
 
 -- numbers that are bytes
 ones : (ns : List ℕ) → greatest ns < 256 → numbers 1 ns ≡ ns
 ones [] small = refl
-ones (n ∷ ns) small = ap (λ k. k ∷ numbers 1 ns) (mod-eq_of_lt first) ∙ ap (λ ks. n ∷ ks) (ones ns rest)
+ones (n ∷ ns) small = ap (λ k. k ∷ numbers 1 ns) (mod-eq_of_lt first) ∙ ap (λ ks. n ∷ ks) (ones ns (omega (arith, small)))
   where
     first : n < 256
     first = omega (arith, small)
 
-    rest : greatest ns < 256
-    rest = omega (arith, small)
-
-pub column_of_bytes : (ns : List ℕ) → greatest ns < 256 → column_in in_bytes ns ≡ ns
+-- a column of them in whole bytes
+column_of_bytes : (ns : List ℕ) → greatest ns < 256 → column_in in_bytes ns ≡ ns
 column_of_bytes [] small = refl
 column_of_bytes (n ∷ ns) small = ap (λ w. numbers w (n ∷ ns)) (one (greatest (n ∷ ns)) small) ∙ ones (n ∷ ns) small
   where
     one : (g : ℕ) → g < 256 → width_of g ≡ 1
     one g small = grind (arith, nat_tests)
 
--- so is one at the front, in all forms but one
+-- one at the front, in all forms but one
 pub numbers_first : (form : ℕ) (ns rest bytes : List ℕ) → (form ≡ packed_form → ⊥) → greatest ns < 256 → bytes ≡ column_in (spelling_of form) ns ++ rest → bytes ≡ ns ++ rest
 numbers_first form ns rest bytes other small first = first ∙ ap (λ bs. bs ++ rest) (ap (λ s. column_in s ns) whole ∙ column_of_bytes ns small)
   where

@@ -14,7 +14,7 @@ pub(crate) fn tags_and_fixed<'a>(of: &RecordRef<'a>) -> &'a [u8]
     behind_header(of).0
 }
 
-/// The lengths of a record's texts, where each is one byte.
+/// The lengths of a record's texts, where each is one byte of it. Else `None`.
 #[inline(always)]
 pub(crate) fn lengths_in_bytes<'a>(of: &RecordRef<'a>) -> Option<&'a [u8]>
     ensures { IfSome result (λ ns. ns.now ≡ map length (texts of.now.tokens)) }
@@ -27,17 +27,7 @@ pub(crate) fn lengths_in_bytes<'a>(of: &RecordRef<'a>) -> Option<&'a [u8]>
     Some(lengths)
 }
 
-/// The tags and the fixed bytes of a record, and all that stands behind them.
-#[inline(always)]
-fn behind_header<'a>(of: &RecordRef<'a>) -> (&'a [u8], &'a [u8])
-    ensures front { result.0.now ≡ tags of.now.tokens ++ fixed of.now.tokens }
-    ensures behind { (rest : List ℕ) × (result.1.now ≡ column_in (spelling_of of.now.form) (map length (texts of.now.tokens)) ++ rest) }
-{
-    let (_, body) = of.bytes().split_at(HEADER_SIZE);
-    body.split_at(of.tags().len() + of.fixed().len())
-}
-
-/// The slots of a record of form 1, where each is one byte.
+/// The slots of a record of form 1, where each is one byte of it. Else `None`.
 #[inline(always)]
 pub(crate) fn slots_in_bytes<'a>(of: &RecordRef<'a>) -> Option<&'a [u8]>
     requires { of.now.form ≡ numbered_form }
@@ -49,4 +39,14 @@ pub(crate) fn slots_in_bytes<'a>(of: &RecordRef<'a>) -> Option<&'a [u8]>
     let bytes = of.bytes();
     let (_, slots) = bytes.split_at(bytes.len() - of.member_count() as usize);
     Some(slots)
+}
+
+/// The tags and the fixed bytes of a record, and all that stands behind them.
+#[inline(always)]
+fn behind_header<'a>(of: &RecordRef<'a>) -> (&'a [u8], &'a [u8])
+    ensures front { result.0.now ≡ tags of.now.tokens ++ fixed of.now.tokens }
+    ensures behind { (rest : List ℕ) × (result.1.now ≡ column_in (spelling_of of.now.form) (map length (texts of.now.tokens)) ++ rest) }
+{
+    let (_, body) = of.bytes().split_at(HEADER_SIZE);
+    body.split_at(of.tags().len() + of.fixed().len())
 }

@@ -9,7 +9,7 @@ use crate::cutting::{lengths_in_bytes, tags_and_fixed};
 use std::alloc::Global;
 use tc_bits::ColumnWriter;
 use tc_bytes::Memory;
-use tc_record::{Column, RecordRef, column_bits, column_bytes, least_width};
+use tc_record::{Column, HEADER_SIZE, RecordRef, column_bits, column_bytes, least_width};
 
 /// How many bytes the columns before the slots take in a form.
 pub(crate) fn values_len(form: u8, from: &RecordRef<'_>) -> usize
@@ -52,7 +52,7 @@ pub(crate) fn put_front(
 }
 
 /// The header of a record in a form.
-fn header_of(len: u32, form: u8, from: &RecordRef<'_>, slot_width: u8) -> [u8; 23]
+fn header_of(len: u32, form: u8, from: &RecordRef<'_>, slot_width: u8) -> [u8; HEADER_SIZE]
     ensures { result ≡ to_be_bytes w32 len ++ (form ∷ (counts (spelling_of form) (parts_of from.now.tokens) (length (labels from.now.tokens)) ++ slot_width ∷ [])) }
 {
     let text_count = from.text_count();
