@@ -121,6 +121,7 @@ impl RecordCursor {
 
     /// The record that so many bytes from a place on are, which are held, judged as `fetch` does. Takes memory where they are
     /// damage.
+    #[inline(always)]
     pub fn judged<F: Frozen>(
         &self,
         component: &Component<F>,

@@ -32,6 +32,7 @@ pub(crate) fn record_of(
 
 /// The record of the form of a version that these bytes are, whose numbers are below a limit, or the damage at the place that
 /// they stand at. Takes memory where they are damage.
+#[inline(always)]
 pub(crate) fn judge(
     alloc: Global,
     version: u8,

@@ -217,6 +217,7 @@ fn put_live<S: Store>(
 }
 
 /// Pushes a record as it is written now: one of form 1 with the numbers of its columns in bits, and another as it is.
+#[inline(always)]
 fn put_record<D: Device>(
     key: u64,
     found: RecordRef<'_>,
