@@ -175,7 +175,7 @@ fn hop_of(alloc: Global, value: &Value) -> Result<Hop, AllocError>
 {
     match value {
         Value::Number(number) => Ok(Hop::At(number.as_i64().unwrap())),
-        Value::String(text) => Ok(Hop::Name(Text::of(String::from_str(alloc, text.as_str())?))),
+        Value::String(text) => Ok(Hop::Name(Text::copy_of(alloc, text.as_str())?)),
         _ => Ok(Hop::Any),
     }
 }

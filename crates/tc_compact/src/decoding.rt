@@ -72,7 +72,7 @@ pub fn value_behind(
         Piece::Null => Ok(Some(Doc::Null)),
         Piece::Bool(value) => Ok(Some(Doc::Bool(value))),
         Piece::Int(value) => Ok(Some(Doc::Int(value))),
-        Piece::Text(value) => Ok(Some(Doc::Text(Text::of(String::from_str(alloc, value)?)))),
+        Piece::Text(value) => Ok(Some(Doc::Text(Text::copy_of(alloc, value)?))),
         Piece::Array => Ok(Some(Doc::Array(Items::of(items_behind(cursor, names, alloc)?)))),
         Piece::Object => match ordered_members(members_behind(cursor, names, alloc)?) {
             Some(members) => Ok(Some(Doc::Object(members))),

@@ -91,7 +91,7 @@ fn step_of(way: Way, names: &Names, alloc: Global) -> Result<Step, AllocError>
         Way::Item => Ok(Step::Item),
         Way::Field(number) => {
             let name = names.name_of(number).unwrap_or("");
-            Ok(Step::Field(Text::of(String::from_str(alloc, name)?)))
+            Ok(Step::Field(Text::copy_of(alloc, name)?))
         }
     }
 }

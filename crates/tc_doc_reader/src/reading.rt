@@ -71,7 +71,7 @@ fn read_next(
         return Ok(None);
     };
     match token {
-        Token::String(text) => Ok(Some(Doc::Text(Text::of(String::from_str(alloc, text)?)))),
+        Token::String(text) => Ok(Some(Doc::Text(Text::copy_of(alloc, text)?))),
         Token::Number(text) => match int_of(integer_of(text)) {
             Some(doc) => Ok(Some(doc)),
             None => Ok(None),
@@ -154,7 +154,7 @@ fn read_members(
     'members: while true {
         match reader.next_key() {
             Ok(Some(name)) => {
-                let name = Text::of(String::from_str(alloc, name)?);
+                let name = Text::copy_of(alloc, name)?;
                 match read_next(alloc, reader, guesses, room)? {
                     Some(value) => found.push(Member { name, value })?,
                     None => return Ok(None),

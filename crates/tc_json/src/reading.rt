@@ -94,5 +94,5 @@ fn convert_members(
 fn copy_of(alloc: Global, text: &str) -> Result<Text, AllocError>
     ensures { IfOk result (λ copied. copied ≡ text.now) }
 {
-    Ok(Text::of(String::from_str(alloc, text)?))
+    Ok(Text::copy_of(alloc, text)?)
 }

@@ -20,7 +20,7 @@ fn document(alloc: Global) -> Result<Doc, AllocError>
 {
     let mut members = Vec::new(alloc);
     members.push(Member {
-        name: Text::of(String::from_str(alloc, "v")?),
+        name: Text::copy_of(alloc, "v")?,
         value: Doc::Int(1),
     })?;
     Ok(Doc::Object(Members::of(members)))

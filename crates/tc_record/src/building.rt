@@ -38,7 +38,7 @@ fn value_behind(
         Piece::Null => Ok(Some(Doc::Null)),
         Piece::Bool(value) => Ok(Some(Doc::Bool(value))),
         Piece::Int(value) => Ok(Some(Doc::Int(value))),
-        Piece::Text(value) => Ok(Some(Doc::Text(Text::of(String::from_str(alloc, value)?)))),
+        Piece::Text(value) => Ok(Some(Doc::Text(Text::copy_of(alloc, value)?))),
         Piece::Array => Ok(Some(Doc::Array(Items::of(items_behind(cursor, alloc)?)))),
         Piece::Object => Ok(Some(Doc::Object(Members::of(members_behind(cursor, alloc)?)))),
         Piece::Close => Ok(None),
@@ -76,7 +76,7 @@ fn members_behind(cursor: &mut Cursor<'_>, alloc: Global) -> Result<Vec<Member>,
         match value_behind(cursor, token, alloc)? {
             None => break,
             Some(value) => {
-                let name = Text::of(String::from_str(alloc, name_or_empty(token.label))?);
+                let name = Text::copy_of(alloc, name_or_empty(token.label))?;
                 members.push(Member { name, value })?;
             }
         }

@@ -15,13 +15,13 @@ pub fn fault_text(alloc: Global, fault: &RunFault) -> Result<Text, AllocError>
 {
     match fault {
         RunFault::Damaged { partition, damage } => damage_text(alloc, *partition, damage),
-        RunFault::Usage => Ok(Text::of(String::from_str(
+        RunFault::Usage => Ok(Text::copy_of(
             alloc,
             "usage: tuple_store FOLDER run [OPTIONS], tuple_store FOLDER demo N or tuple_store FOLDER check [OPTIONS]",
-        )?)),
-        RunFault::Read => Ok(Text::of(String::from_str(alloc, "read fault")?)),
-        RunFault::Spent => Ok(Text::of(String::from_str(alloc, "no number left")?)),
-        RunFault::Memory => Ok(Text::of(String::from_str(alloc, "no memory")?)),
+        )?),
+        RunFault::Read => Ok(Text::copy_of(alloc, "read fault")?),
+        RunFault::Spent => Ok(Text::copy_of(alloc, "no number left")?),
+        RunFault::Memory => Ok(Text::copy_of(alloc, "no memory")?),
         RunFault::Write { taken } => Ok(Text::of(format!(in alloc;
             "write fault after {taken} bytes"
         )?)),

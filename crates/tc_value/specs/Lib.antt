@@ -3,3 +3,4 @@ pub mod Meaning
 pub mod DocFalls
 pub mod ShapeMeaning
 pub mod ShapeFalls
+pub mod Texts

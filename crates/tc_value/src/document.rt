@@ -9,7 +9,7 @@ mod depths;
 mod equality;
 mod shaping;
 
-use crate::names::Text;
+use crate::text::Text;
 use std::marker::Model;
 
 /// A document: a value that JSON can write, with integers of 64 bits for its numbers.

@@ -1,58 +1,10 @@
-//! Texts, kinds of values, and steps of a path.
+//! Kinds of values, and steps of a path.
 
-ghost use Rattle.std.specs.Prelude.{◌≡◌, IfOk, IsUtf8, string_bytes};
+ghost use Rattle.std.specs.Prelude.{◌≡◌};
 ghost use Rattle.tc_model.specs.Kinds.{tag};
 ghost use Rattle.tc_value.specs.Kinds.{kind_meant};
 
-use std::alloc::{AllocError, Global};
-use std::marker::Model;
-
-/// A text, or the name of a member. Contracts see its UTF-8 bytes.
-#[derive(Drop, Debug)]
-pub struct Text {
-    text: String,
-}
-
-impl Model for Text {
-    ghost use Rattle.std.specs.Prelude.{ℕ, List, string_bytes};
-
-    ghost Value = { List ℕ };
-
-    ghost view = { λ t. string_bytes t.text };
-}
-
-impl Text {
-    /// The text of a string. Takes no memory.
-    pub fn of(text: String) -> Text
-        ensures { result ≡ string_bytes text }
-    {
-        Text { text }
-    }
-
-    /// The text, borrowed.
-    pub fn as_str(&self) -> &str
-        ensures bytes { result.now ≡ self.now }
-        ensures utf8 { IsUtf8 self.now }
-    {
-        self.text.as_str()
-    }
-
-    /// The text as a string. Takes no memory.
-    pub fn into_inner(self) -> String
-        ensures { string_bytes result ≡ self }
-    {
-        self.text
-    }
-
-    /// The same text in memory of its own. Errs only for want of memory.
-    pub fn copy(&self, alloc: Global) -> Result<Text, AllocError>
-        ensures { IfOk result (λ copied. copied ≡ self.now) }
-    {
-        Ok(Text {
-            text: String::from_str(alloc, self.as_str())?,
-        })
-    }
-}
+use crate::text::Text;
 
 /// The kind of a value.
 #[derive(Clone, Copy, Debug, PartialEq, Eq)]

@@ -6,7 +6,7 @@ ghost use Rattle.tc_value.specs.ShapeMeaning.{shape_tree, shape_member};
 
 mod copying;
 
-use crate::names::Text;
+use crate::text::Text;
 use std::marker::Model;
 
 /// The shape of a document: the document without its values.
