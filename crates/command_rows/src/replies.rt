@@ -1,6 +1,5 @@
 //! Replies, as they are written.
 
-use serde_json::json;
 use std::alloc::Global;
 use std::str;
 use tc_bytes::Bytes;
@@ -14,7 +13,7 @@ pub(crate) fn written(alloc: Global, name: &str) -> Option<String> {
 /// The line of a reply.
 pub(crate) fn line_of(alloc: Global, reply: &Reply) -> Option<String> {
     let mut line = Vec::new(alloc);
-    put_line(alloc, reply, &mut line).ok()?;
+    put_line(reply, &mut line).ok()?;
     String::from_str(alloc, str::from_utf8(&line).ok()?).ok()
 }
 
@@ -84,6 +83,6 @@ fn collected(alloc: Global) -> Option<Reply> {
 }
 
 fn schemas(alloc: Global) -> Option<Reply> {
-    let schema = json!(in alloc; {"count": 0}).ok()?;
-    Some(Reply::Schemas(Schemas::of(vec![in alloc; schema].ok()?)))
+    let text = bytes(alloc, "{\"count\":0}")?;
+    Some(Reply::Schemas(Schemas::of(vec![in alloc; text].ok()?)))
 }

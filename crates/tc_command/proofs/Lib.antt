@@ -2,5 +2,4 @@ pub mod FormLemmas
 pub mod KeyLemmas
 pub mod Utf8Lemmas
 pub mod ReplyLemmas
-pub mod ReplyFloats
 pub mod KeyedLineLemmas

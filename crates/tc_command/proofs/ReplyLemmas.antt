@@ -1,17 +1,9 @@
--- Lemmas on the JSON of replies.
-use Rattle.std.proofs.Common.{◌≡◌, ℕ, List, [], ◌∷◌, ◌++◌, codes, true, false, cond, Result, Ok, Err, is_ok, OnOk, refl, sym, ap, ◌∙◌, append_assoc}
+-- Lemmas on the lines of replies.
+use Rattle.std.proofs.Common.{◌≡◌, ℕ, List, ◌++◌, codes, true, false, cond, Result, Ok, Err, is_ok, OnOk, refl, sym, ap, ◌∙◌, append_assoc}
 use Rattle.std.specs.Prelude.{decimal}
-use Rattle.serde_json.specs.Data.{Data, item}
-use Rattle.serde_json.specs.View as seen
 use Rattle.serde_json.proofs.OnLiterals.{serde_json_on_literals}
 use Rattle.tc_request_model.specs.Request.{Refusal, oversized, malformed, unknown, not_whole, too_deep, no_key, names_full, full, busy, no_scan}
-use Rattle.tc_request_model.specs.Reply.{schemas_data, reply_line, refusal_name, upserted, deleted, flushed, started, turned_down}
-
--- ---- lists of replies are the items of arrays
-
-pub schemas_listed : (ds : List Data) → seen.items_of ds ≡ schemas_data ds
-schemas_listed [] = refl
-schemas_listed (d ∷ ds) = ap (item d) (schemas_listed ds)
+use Rattle.tc_request_model.specs.Reply.{reply_line, refusal_name, upserted, deleted, flushed, started, turned_down}
 
 -- ---- pieces that are put one after the other
 

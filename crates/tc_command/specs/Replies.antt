@@ -1,6 +1,4 @@
 -- What replies show.
-use Rattle.std.specs.Prelude.{map}
-use Rattle.serde_json.specs.View.{view}
 use Rattle.tc_request_model.specs.Rendered as rendered
 use Rattle.tc_command.specs.Refusals.{refusal_of}
 use Rattle.tc_command.specs.declared.replies.Reply.{Reply}
@@ -12,7 +10,7 @@ rendered_of (Deleted id found) = rendered.deleted id found
 rendered_of (Got id text) = rendered.got id text
 rendered_of (Rows rows) = rendered.rows rows
 rendered_of Flushed = rendered.flushed
-rendered_of (Schemas schemas) = rendered.schemas (map view schemas)
+rendered_of (Schemas schemas) = rendered.schemas schemas
 rendered_of Started = rendered.started
 rendered_of (Collected rows upto) = rendered.collected rows upto
 rendered_of (Refused refusal) = rendered.turned_down (refusal_of refusal)

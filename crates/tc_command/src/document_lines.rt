@@ -1,12 +1,12 @@
-//! The lines of replies that hold texts of documents, which are copied one after the other.
+//! The lines of replies that hold texts of documents and schemas, which are copied one after the other.
 
 ghost use Rattle.std.specs.Prelude.{◌≡◌, ◌++◌, OnOk};
 ghost use Rattle.serde_json.specs.Data.{array};
 ghost use Rattle.serde_json.specs.Written.{compact_text};
 ghost use Rattle.tc_request_model.specs.Reply.{counts_data};
-ghost use Rattle.tc_request_model.specs.Rendered.{text_or_null, rows_array, got_line as found_text, rows_line as rows_text, collected_line as collected_text};
+ghost use Rattle.tc_request_model.specs.Rendered.{text_or_null, rows_array, texts_array, got_line as found_text, rows_line as rows_text, schemas_line as schemas_text, collected_line as collected_text};
 
-use crate::replies::{Counts, Row, Rows};
+use crate::replies::{Counts, Row, Rows, Schemas};
 use std::alloc::AllocError;
 use tc_bytes::Bytes;
 use tc_text::{put_comma, put_mark, put_unsigned};
@@ -41,6 +41,15 @@ pub(crate) fn put_rows_line(rows: &Rows, out: &mut Vec<u8>) -> Result<(), AllocE
     out.extend_from_slice(b"}\n")
 }
 
+/// Puts the line of the schemas of all partitions.
+pub(crate) fn put_schemas_line(schemas: &Schemas, out: &mut Vec<u8>) -> Result<(), AllocError>
+    ensures { OnOk result (out.new.items ≡ out.old.items ++ schemas_text schemas.now) }
+{
+    out.extend_from_slice(b"{\"schemas\":")?;
+    put_schemas(schemas, out)?;
+    out.extend_from_slice(b"}\n")
+}
+
 /// Puts the line of the rows of a scan, with how many writes of each partition they come after.
 pub(crate) fn put_collected_line(
     rows: &Rows,
@@ -56,13 +65,25 @@ pub(crate) fn put_collected_line(
     out.extend_from_slice(b"}\n")
 }
 
+// This room, and that for a text more with what stands before it.
+fn and_room(room: usize, text: &Bytes) -> usize {
+    room.saturating_add(text.as_slice().len()).saturating_add(1)
+}
+
 // Room for the texts of rows and what stands between them, so that a long line is never moved as it grows.
 fn rows_room(rows: &[Row]) -> usize {
     let mut room = ROOM;
     for row in rows {
-        room = room
-            .saturating_add(row.text.as_slice().len())
-            .saturating_add(1);
+        room = and_room(room, &row.text);
+    }
+    room
+}
+
+// Room for the texts of schemas, likewise.
+fn schemas_room(texts: &[Bytes]) -> usize {
+    let mut room = ROOM;
+    for text in texts {
+        room = and_room(room, text);
     }
     room
 }
@@ -77,6 +98,21 @@ fn put_rows(rows: &Rows, out: &mut Vec<u8>) -> Result<(), AllocError>
     for row in rows {
         put_comma(later, out)?;
         out.extend_from_slice(row.text.as_slice())?;
+        later = true;
+    }
+    put_mark(b']', out)
+}
+
+fn put_schemas(schemas: &Schemas, out: &mut Vec<u8>) -> Result<(), AllocError>
+    ensures { OnOk result (out.new.items ≡ out.old.items ++ texts_array schemas.now) }
+{
+    let mut later = false;
+    let texts = schemas.as_slice();
+    out.reserve(schemas_room(texts))?;
+    put_mark(b'[', out)?;
+    for text in texts {
+        put_comma(later, out)?;
+        out.extend_from_slice(text.as_slice())?;
         later = true;
     }
     put_mark(b']', out)

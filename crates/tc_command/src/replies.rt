@@ -1,11 +1,8 @@
 //! The replies.
 
-ghost use Rattle.std.specs.Prelude.{◌≡◌, All, false};
-ghost use Rattle.serde_json.specs.View.{view};
-ghost use Rattle.serde_json.specs.Written.{has_float};
+ghost use Rattle.std.specs.Prelude.{◌≡◌};
 
 use crate::refusals::Refusal;
-use serde_json::Value;
 use std::marker::Model;
 use tc_bytes::Bytes;
 
@@ -49,27 +46,18 @@ impl Model for Counts {
     ghost view = { λ c. c.counts.items };
 }
 
-/// The JSON text of a schema for each partition, as a value without floats. Contracts see the list.
-#[derive(Drop)]
+/// The JSON text of a schema for each partition. Contracts see the list.
+#[derive(Drop, Debug)]
 pub struct Schemas {
-    schemas: Vec<Value>,
+    texts: Vec<Bytes>,
 }
 
 impl Model for Schemas {
-    ghost use Rattle.std.specs.Prelude.{◌≡◌, List, All, false};
-    ghost use Rattle.serde_json.specs.View.{view as json_of};
-    ghost use Rattle.serde_json.specs.Written.{has_float};
-    ghost use Rattle.serde_json.specs.declared.value.Value as json;
-    ghost use Rattle.serde_json.specs.contracts.value.Value as contract;
-    ghost use Rattle.std.specs.Coded.{coded_list};
+    ghost use Rattle.std.specs.Prelude.{List, ℕ};
 
-    ghost Value = { List json.Value };
+    ghost Value = { List (List ℕ) };
 
-    ghost coded = { coded_list contract.the_row.coded };
-
-    ghost view = { λ s. s.schemas.items };
-
-    ghost invariant = { λ s. All (λ v. has_float (json_of v) ≡ false) s.schemas.items };
+    ghost view = { λ s. s.texts.items };
 }
 
 impl Rows {
@@ -122,28 +110,25 @@ impl Counts {
 }
 
 impl Schemas {
-    /// The schemas of a reply, in which no number is a float, since a float has no exact text. Takes no memory.
-    pub fn of(schemas: Vec<Value>) -> Schemas
-        requires { All (λ v. has_float (view v) ≡ false) schemas.items }
-        ensures { result ≡ schemas.items }
+    /// The schemas of a reply. Takes no memory.
+    pub fn of(texts: Vec<Bytes>) -> Schemas
+        ensures { result ≡ texts.items }
     {
-        Schemas { schemas }
+        Schemas { texts }
     }
 
-    /// The schemas, borrowed.
-    pub fn as_slice(&self) -> &[Value]
-        ensures same { result.now ≡ self.now }
-        ensures exact { All (λ v. has_float (view v) ≡ false) self.now }
+    /// The texts, borrowed.
+    pub fn as_slice(&self) -> &[Bytes]
+        ensures { result.now ≡ self.now }
     {
-        self.schemas.as_slice()
+        self.texts.as_slice()
     }
 
-    /// The schemas as a vector. Takes no memory.
-    pub fn into_inner(self) -> Vec<Value>
-        ensures same { result.items ≡ self }
-        ensures exact { All (λ v. has_float (view v) ≡ false) self }
+    /// The texts as a vector. Takes no memory.
+    pub fn into_inner(self) -> Vec<Bytes>
+        ensures { result.items ≡ self }
     {
-        self.schemas
+        self.texts
     }
 }
 

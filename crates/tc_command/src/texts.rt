@@ -1,26 +1,20 @@
 //! The line of a reply: compact JSON, whose members stand in ascending order, and a line feed.
 
-ghost use Rattle.std.specs.Prelude.{◌≡◌, ◌++◌, ◌∷◌, [], IfOk, OnOk, All, map, false};
-ghost use Rattle.serde_json.specs.Data.{array};
-ghost use Rattle.serde_json.specs.View.{view};
-ghost use Rattle.serde_json.specs.Written.{has_float, compact_text};
-ghost use Rattle.tc_model.specs.Lines.{feed};
-ghost use Rattle.tc_request_model.specs.Reply.{reply_line, reply_data, schemas_data};
+ghost use Rattle.std.specs.Prelude.{◌≡◌, ◌++◌, OnOk};
+ghost use Rattle.tc_request_model.specs.Reply.{reply_line};
 ghost use Rattle.tc_request_model.specs.Reply as meant;
 ghost use Rattle.tc_request_model.specs.Rendered.{rendered_line};
 ghost use Rattle.tc_command.specs.Refusals.{refusal_of};
 ghost use Rattle.tc_command.specs.Replies.{rendered_of};
 
-use crate::document_lines::{put_collected_line, put_found_line, put_rows_line};
+use crate::document_lines::{put_collected_line, put_found_line, put_rows_line, put_schemas_line};
 use crate::refusals::Refusal;
-use crate::replies::{Reply, Schemas};
+use crate::replies::Reply;
 use itoa::Buffer;
-use serde_json::{Value, json};
-use std::alloc::{AllocError, Global};
-use tc_bytes::Bytes;
+use std::alloc::AllocError;
 
 /// Puts the line of a reply, with its line feed. Errs only for want of memory, and then leaves some first part of the line.
-pub fn put_line(alloc: Global, reply: &Reply, out: &mut Vec<u8>) -> Result<(), AllocError>
+pub fn put_line(reply: &Reply, out: &mut Vec<u8>) -> Result<(), AllocError>
     ensures { OnOk result (out.new.items ≡ out.old.items ++ rendered_line (rendered_of reply.now)) }
 {
     match reply {
@@ -29,7 +23,7 @@ pub fn put_line(alloc: Global, reply: &Reply, out: &mut Vec<u8>) -> Result<(), A
         Reply::Got { id: _, text } => put_found_line(text, out),
         Reply::Rows(rows) => put_rows_line(rows, out),
         Reply::Flushed => put_flushed(out),
-        Reply::Schemas(schemas) => put_schemas(alloc, schemas, out),
+        Reply::Schemas(schemas) => put_schemas_line(schemas, out),
         Reply::Started => put_started(out),
         Reply::Collected { rows, upto } => put_collected_line(rows, upto, out),
         Reply::Refused(refusal) => put_refused(*refusal, out),
@@ -87,51 +81,4 @@ fn put_three(first: &[u8], second: &[u8], third: &[u8], out: &mut Vec<u8>) -> Re
     out.extend_from_slice(first)?;
     out.extend_from_slice(second)?;
     out.extend_from_slice(third)
-}
-
-// ---- schemas, which are JSON values
-
-fn put_schemas(alloc: Global, schemas: &Schemas, out: &mut Vec<u8>) -> Result<(), AllocError>
-    ensures { OnOk result (out.new.items ≡ out.old.items ++ reply_line (meant.schemas (map view schemas.now))) }
-{
-    let value = schemas_value(alloc, schemas)?;
-    let line = line_of(alloc, &value)?;
-    out.extend_from_slice(line.as_slice())
-}
-
-// The compact text of a value and a line feed.
-fn line_of(alloc: Global, value: &Value) -> Result<Bytes, AllocError>
-    requires { has_float (view value.now) ≡ false }
-    ensures { IfOk result (λ text. text ≡ compact_text (view value.now) ++ feed ∷ []) }
-{
-    let mut text = value.to_vec(alloc)?;
-    text.push(b'\n')?;
-    Ok(Bytes::of(text))
-}
-
-fn schemas_value(alloc: Global, schemas: &Schemas) -> Result<Value, AllocError>
-    ensures value { IfOk result (λ v. view v ≡ reply_data (meant.schemas (map view schemas.now))) }
-    ensures no_floats { All (λ v. has_float (view v) ≡ false) schemas.now }
-{
-    let listed = schemas_array(alloc, schemas)?;
-    json!(in alloc; {"schemas": listed})
-}
-
-fn schemas_array(alloc: Global, schemas: &Schemas) -> Result<Value, AllocError>
-    ensures value { IfOk result (λ v. view v ≡ array (schemas_data (map view schemas.now))) }
-    ensures no_floats { All (λ v. has_float (view v) ≡ false) schemas.now }
-{
-    Ok(Value::Array(schema_values(alloc, schemas)?))
-}
-
-fn schema_values(alloc: Global, schemas: &Schemas) -> Result<Vec<Value>, AllocError>
-    ensures values { IfOk result (λ v. map view v.items ≡ map view schemas.now) }
-    ensures no_floats { All (λ v. has_float (view v) ≡ false) schemas.now }
-{
-    let schemas = schemas.as_slice();
-    let mut values = Vec::with_capacity(alloc, schemas.len())?;
-    for schema in schemas {
-        values.push(schema.clone()?)?;
-    }
-    Ok(values)
 }

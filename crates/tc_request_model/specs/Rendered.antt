@@ -1,7 +1,7 @@
--- What a reply shows: the texts of its documents and rows in their places. Rows keep their keys, by which those of several
--- partitions are put in order.
+-- What a reply shows: the texts of its documents, rows and schemas in their places. Rows keep their keys, by which those of
+-- several partitions are put in order.
 use Rattle.std.specs.Prelude.{ℕ, Bool, true, false, List, [], ◌∷◌, ◌++◌, map, codes, Option, Some, None, option_map}
-use Rattle.serde_json.specs.Data.{Data, array}
+use Rattle.serde_json.specs.Data.{array}
 use Rattle.serde_json.specs.Written.{compact_text, comma_if}
 use Rattle.tc_model.specs.Document.{Document}
 use Rattle.tc_request_model.specs.Request.{Refusal}
@@ -18,7 +18,7 @@ pub data Rendered : Type 0 where
   got : ℕ → Option (List ℕ) → Rendered
   rows : List RowText → Rendered
   flushed : Rendered
-  schemas : List Data → Rendered
+  schemas : List (List ℕ) → Rendered
   started : Rendered
   collected : List RowText → List ℕ → Rendered
   turned_down : Refusal → Rendered
@@ -36,7 +36,7 @@ rendered (reply.deleted n found) = deleted n found
 rendered (reply.got n d) = got n (option_map (document_text n) d)
 rendered (reply.rows rs) = rows (map row_text rs)
 rendered reply.flushed = flushed
-rendered (reply.schemas ds) = schemas ds
+rendered (reply.schemas ds) = schemas (map compact_text ds)
 rendered reply.started = started
 rendered (reply.collected rs upto) = collected (map row_text rs) upto
 rendered (reply.turned_down r) = turned_down r
@@ -47,19 +47,25 @@ abbrev pub text_or_null : Option (List ℕ) → List ℕ
 text_or_null None = codes "null"
 text_or_null (Some text) = text
 
--- the texts of rows with a comma between two, and the bracket behind the last, as the items of an array are written
-abbrev pub rows_listed : Bool → List RowText → List ℕ
-rows_listed later [] = 93 ∷ []
-rows_listed later (t ∷ ts) = comma_if later ++ (t.text ++ rows_listed true ts)
+-- texts with a comma between two, and the bracket behind the last, as the items of an array are written
+abbrev pub texts_listed : Bool → List (List ℕ) → List ℕ
+texts_listed later [] = 93 ∷ []
+texts_listed later (t ∷ ts) = comma_if later ++ (t ++ texts_listed true ts)
+
+abbrev pub texts_array : List (List ℕ) → List ℕ
+texts_array ts = 91 ∷ texts_listed false ts
 
 abbrev pub rows_array : List RowText → List ℕ
-rows_array ts = 91 ∷ rows_listed false ts
+rows_array ts = texts_array (map (λ t. t.text) ts)
 
 abbrev pub got_line : Option (List ℕ) → List ℕ
 got_line text = codes "{\"doc\":" ++ (text_or_null text ++ codes "}\n")
 
 abbrev pub rows_line : List RowText → List ℕ
 rows_line ts = codes "{\"rows\":" ++ (rows_array ts ++ codes "}\n")
+
+abbrev pub schemas_line : List (List ℕ) → List ℕ
+schemas_line ts = codes "{\"schemas\":" ++ (texts_array ts ++ codes "}\n")
 
 abbrev pub collected_line : List RowText → List ℕ → List ℕ
 collected_line ts upto = codes "{\"rows\":" ++ (rows_array ts ++ (codes ",\"upto\":" ++ (compact_text (array (counts_data upto)) ++ codes "}\n")))
@@ -71,7 +77,7 @@ rendered_line (deleted n found) = reply_line (reply.deleted n found)
 rendered_line (got n text) = got_line text
 rendered_line (rows ts) = rows_line ts
 rendered_line flushed = reply_line reply.flushed
-rendered_line (schemas ds) = reply_line (reply.schemas ds)
+rendered_line (schemas ts) = schemas_line ts
 rendered_line started = reply_line reply.started
 rendered_line (collected ts upto) = collected_line ts upto
 rendered_line (turned_down r) = reply_line (reply.turned_down r)
