@@ -50,7 +50,7 @@ pub fn put_number(width: Width, number: usize, out: &mut Vec<u8>) -> Result<(), 
     let bytes = number.to_be_bytes();
     match width {
         Width::Zero => Ok(()),
-        Width::One => out.extend_from_slice(&bytes[7..]),
+        Width::One => Ok(out.push(bytes[7])?),
         Width::Two => out.extend_from_slice(&bytes[6..]),
         Width::Four => out.extend_from_slice(&bytes[4..]),
     }
