@@ -48,11 +48,11 @@ fn text_of_known(
 ) -> Result<Bytes, AllocError>
     ensures { (d : Document) → IsRecordUnder names.now d of.entry.bytes → IfOk result (λ text. text ≡ compact_text (with_id key d)) }
 {
-    // A text has the names of members that a record has the numbers of.
+    // A text has the names of members that a record has the numbers of. It does not live long, so that what is left of the
+    // room is not given back.
     let room = of.bytes().len().saturating_mul(2);
     let mut text = Vec::with_capacity(alloc, room)?;
     put_document(of, names, key, &mut text)?;
-    text.shrink_to_fit();
     Ok(Bytes::of(text))
 }
 
