@@ -12,13 +12,11 @@ ghost use Rattle.tc_value.specs.ShapeMeaning.{shape_tree, shape_member};
 ghost use Rattle.tc_model.specs.TreeSize.{tree_size, trees_size, labelled_size};
 
 use crate::no_answer::NoAnswer;
-use crate::records::record_of_document;
 use std::alloc::Global;
 use std::marker::Model;
 use tc_count::{Inferred, infer, shapes_of};
-use tc_infer::{add, shapes_fit, subtract, tally};
+use tc_infer::{add, shapes_fit, subtract};
 use tc_names::Names;
-use tc_record::{RecordRef, one_document};
 use tc_schema::Schema;
 use tc_value::{Doc, Shape, ShapeItems, ShapeMember};
 
@@ -81,38 +79,6 @@ impl Kept {
             schema,
             docs,
         })
-    }
-
-    /// One document more, by its record alone where each of its values has a counter already. Answers whether that is so.
-    pub(crate) fn with_met(self, alloc: Global, doc: Doc) -> Result<(Kept, bool), NoAnswer> {
-        one_document();
-        let record = record_of_document(alloc, &doc)?;
-        let Kept {
-            names,
-            mut schema,
-            mut docs,
-        } = self;
-        let _size = size_of_all(docs.as_slice(), alloc)?;
-        let shape = doc.shape(alloc)?;
-        let Some(_more) = bound_with(&shape, &names) else {
-            return Err(NoAnswer);
-        };
-        let known = tally(&mut schema, &names, RecordRef::known(record.as_slice()));
-        if !known {
-            let kept = Kept {
-                names,
-                schema,
-                docs,
-            };
-            return Ok((kept.with(alloc, doc)?, false));
-        }
-        docs.insert(0, doc)?;
-        let kept = Kept {
-            names,
-            schema,
-            docs,
-        };
-        Ok((kept, true))
     }
 
     /// The document at a place less.

@@ -1,9 +1,9 @@
 //! Layer 6, programs: keeps the schema of documents, one row of standard input at a time, and prints its text. A row is
 //! a call and its argument, between them a space. The schema is added to and subtracted from, and the text of what is
-//! inferred from all documents stands beside it where it differs. `met` adds a document by its record, and tells whether
-//! each of its values had a counter already. `generated` has the documents that so many generated commands leave, carried out
-//! plainly, and their schema inferred: a demonstration in `run_rows` has the same text. `no answer` stands for a row out of form, and no document is left then. A row
-//! that begins with `#` is a note, and is printed as it is.
+//! inferred from all documents stands beside it where it differs. `generated` has the documents that so many generated
+//! commands leave, carried out plainly, and their schema inferred: a demonstration in `run_rows` has the same text. `no
+//! answer` stands for a row out of form, and no document is left then. A row that begins with `#` is a note, and is printed as
+//! it is.
 #![tactic(auto)]
 
 mod bytes;
@@ -11,7 +11,6 @@ mod chance;
 mod generated;
 mod kept;
 mod no_answer;
-mod records;
 
 use chance::{Chance, some_document};
 use kept::Kept;
@@ -52,7 +51,6 @@ fn answer_of(alloc: Global, kept: Kept, row: &str) -> Result<(Kept, String), NoA
     match call {
         "none" => shown(alloc, Kept::none(alloc)),
         "add" => shown(alloc, kept.with(alloc, document(alloc, argument)?)?),
-        "met" => met(alloc, kept, argument),
         "less" => shown(alloc, kept.without(alloc, place(argument)?)?),
         "random" => shown(alloc, at_random(alloc, argument)?),
         "generated" => shown(alloc, after_generated(alloc, argument)?),
@@ -92,13 +90,6 @@ fn shown(alloc: Global, kept: Kept) -> Result<(Kept, String), NoAnswer> {
         )?
     };
     Ok((kept, answer))
-}
-
-// Whether each value of the document, which is added, had a counter already.
-fn met(alloc: Global, kept: Kept, text: &str) -> Result<(Kept, String), NoAnswer> {
-    let (kept, known) = kept.with_met(alloc, document(alloc, text)?)?;
-    let answer = if known { "known" } else { "new" };
-    Ok((kept, String::from_str(alloc, answer)?))
 }
 
 // From nothing so many steps of one document more or less, by a seed.

@@ -1,7 +1,7 @@
--- A schema that has a counter for each value of a shape, by paths and place by place. It knows the shape's names, and
--- it keeps the counters when more is counted.
-use Rattle.std.proofs.Common.{◌≡◌, ℕ, zero, suc, ◌+◌, ◌<◌, Bool, true, false, List, [], ◌∷◌, Option, Some, None, is_some, IsTrue, bytes_eq, if◌then◌else◌, refl, sym, ap, ◌∙◌, subst, arith}
-use Rattle.std.proofs.lemmas.Bool.{and_parts, and_from, ltb-true, lt-ltb, false≢true}
+-- A schema that has a counter for each value of a shape, by paths and place by place. It keeps the counters when more is
+-- counted.
+use Rattle.std.proofs.Common.{◌≡◌, ℕ, zero, suc, ◌+◌, ◌<◌, Bool, true, false, List, [], ◌∷◌, is_some, IsTrue, bytes_eq, if◌then◌else◌, refl, sym, ap, ◌∙◌, subst, arith}
+use Rattle.std.proofs.lemmas.Bool.{and_parts, and_from, ltb-true, lt-ltb}
 use Rattle.std.proofs.lemmas.Bool.Decides.{Decides-eqb}
 use Rattle.std.proofs.lemmas.Slice.Eq.{bytes_eq-Decides}
 use Rattle.tc_model.specs.Tree.{leaf, array, object, Items, no_items, item, Members, no_members, member}
@@ -9,8 +9,8 @@ use Rattle.tc_model.specs.Document.{Name, ShapeTree, ScalarKind, null_kind, bool
 use Rattle.tc_model.specs.Dictionary.{number_of, number}
 use Rattle.tc_model.specs.Kinds.{Kind, scalar, arrays, objects, tag, is_kind}
 use Rattle.tc_schema_model.specs.Occurrences.{field, each_item, Path, occurrences, items_occurrences, members_occurrences}
-use Rattle.tc_schema_model.specs.Counted.{Counters, Counted, counted, counter, Below, an_item, Fields, held, field_at, numbered_field, nothing, shows}
-use Rattle.tc_schema_model.specs.Added.{added, members_added, put_field, IsNamed, AreItemsNamed, AreMembersNamed}
+use Rattle.tc_schema_model.specs.Counted.{Counters, Counted, counted, counter, Below, an_item, Fields, held, field_at, numbered_field, shows}
+use Rattle.tc_schema_model.specs.Added.{added, members_added, put_field, IsNamed}
 use Rattle.tc_schema_model.specs.HasCounters.{HasCounters, has_counters, items_have_counters, members_have_counters}
 use Rattle.tc_schema_model.proofs.AddedLaws.{shows-added, shows-members_added}
 use Rattle.tc_schema_model.proofs.CounterLaws.{each_kind}
@@ -98,38 +98,6 @@ mutual
   members_by_place names (member label s ms) fs each =
       and_from _ _ (by_place names s (numbered_field (number_of names label) fs) (λ path t some. each label path t (omega (arith, some, at_label label s ms path t))))
       (members_by_place names ms fs (λ name path t some. each name path t (omega (arith, some))))
-
--- ---- what has counters has a name for each member
-
-nothing_there : (names : List Name) (s : ShapeTree) → has_counters names s nothing ≡ false
-nothing_there names (leaf null_kind) = refl
-nothing_there names (leaf boolean_kind) = refl
-nothing_there names (leaf integer_kind) = refl
-nothing_there names (leaf text_kind) = refl
-nothing_there names (array xs) = refl
-nothing_there names (object ms) = refl
-
-pub something_there : (names : List Name) (s : ShapeTree) (d : Counted) → has_counters names s d ≡ true → d ≡ nothing → ⊥
-something_there names s d there none = false≢true (sym (nothing_there names s) ∙ ap (has_counters names s) (sym none) ∙ there)
-
-name_there : (names : List Name) (s : ShapeTree) (o : Option ℕ) (fs : Fields) → has_counters names s (numbered_field o fs) ≡ true → IsTrue (is_some o)
-name_there names s None fs there = absurd (something_there names s nothing there refl)
-name_there names s (Some n) fs there = refl
-
-mutual
-  pub named_there : (names : List Name) (s : ShapeTree) (d : Counted) → has_counters names s d ≡ true → IsNamed names s
-  named_there names (leaf k) d there = tt
-  named_there names (array xs) (counted c b fs) there = items_named_there names xs b (and_parts _ _ there).1
-  named_there names (object ms) (counted c b fs) there = members_named_there names ms fs (and_parts _ _ there).1
-
-  items_named_there : (names : List Name) (xs : Items Name ScalarKind) (b : Below) → items_have_counters names xs b ≡ true → AreItemsNamed names xs
-  items_named_there names no_items b there = tt
-  items_named_there names (item s xs) b there = let parts = and_parts _ _ there in (named_there names s (held b) parts.0, items_named_there names xs b parts.1)
-
-  members_named_there : (names : List Name) (ms : Members Name ScalarKind) (fs : Fields) → members_have_counters names ms fs ≡ true → AreMembersNamed names ms
-  members_named_there names no_members fs there = tt
-  members_named_there names (member label s ms) fs there =
-      let parts = and_parts _ _ there in (name_there names s (number_of names label) fs parts.0, named_there names s (numbered_field (number_of names label) fs) parts.0, members_named_there names ms fs parts.1)
 
 -- ---- counters stay when more is counted
 
