@@ -3,10 +3,6 @@ use Rattle.std.proofs.Common.{◌≡◌, ◌∙◌, ℕ, List, ◌∷◌, ◌++�
 use Rattle.tc_bits.specs.Bits.{Waiting, column, written}
 use Rattle.tc_bits.proofs.Joined.{AreBelow}
 
--- three parts, one behind the other
-pub three_put : (o o1 o2 o3 a b c : List ℕ) → o1 ≡ o ++ a → o2 ≡ o1 ++ b → o3 ≡ o2 ++ c → o3 ≡ o ++ (a ++ (b ++ c))
-three_put o o1 o2 o3 a b c p1 p2 p3 = p3 ∙ ap (λ x. x ++ c) (p2 ∙ ap (λ x. x ++ b) p1) ∙ append_assoc (o ++ a) b c ∙ append_assoc o a (b ++ c)
-
 -- before the first number
 pub column_begun : (w : Waiting) (bits : ℕ) (out ns all : List ℕ) → w.width ≡ bits → AreBelow bits ns → ((ks : List ℕ) → written w ks ≡ column bits ks) → column bits ns ≡ all → AreBelow w.width ns × (out ++ written w ns ≡ out ++ all)
 column_begun w bits out ns all width below nothing spells = (subst (λ b. AreBelow b ns) (sym width) below, ap (λ bs. out ++ bs) (nothing ns ∙ spells))
