@@ -84,15 +84,15 @@ read_members-members-preserved t c =
     subst (λ o. IfSome o (λ (doc : Doc). depth (tree_of doc) ≤ c.args.room)) c.in-Some.is c.in_ok-value-in-Ok-Some.ensures.shallow in
     let less = read_key-shorter l.reader (Some k) s named in
     let lesser : length r < length s = grind arith in
-    let copied : c.of-name.result ≡ k = search rules in
-    let put : with_members (map member_of c.push.new.self.items) no_members ≡ with_member c.of-name.result (tree_of v) old =
-    ap (λ es. with_members (map member_of es) no_members) c.in_ok-push-in-Some.ensures.items ∙ ap (λ es. with_members es no_members) (map-append member_of l.found.items _) ∙ one_more_member (map member_of l.found.items) (c.of-name.result, tree_of v) no_members in (
+    let copied : c.in_ok-name-in-Ok-Some.name ≡ k = search rules in
+    let put : with_members (map member_of c.push.new.self.items) no_members ≡ with_member c.in_ok-name-in-Ok-Some.name (tree_of v) old =
+    ap (λ es. with_members (map member_of es) no_members) c.in_ok-push-in-Some.ensures.items ∙ ap (λ es. with_members es no_members) (map-append member_of l.found.items _) ∙ one_more_member (map member_of l.found.items) (c.in_ok-name-in-Ok-Some.name, tree_of v) no_members in (
       n - 1,
       omega (arith, l.invariant.1),
       l.invariant.2 ∙ member_next p old n k l.reader s r (tree_of v) (omega (arith, l.invariant.1)) named meant
           ∙ ap (λ found. converted (λ ms. members_in ms found) (members p (n - 1) r)) (sym (put ∙ ap (λ name. with_member name (tree_of v) old) copied)),
       omega (arith, l.invariant.3),
-      subst (λ ms. members_depth ms ≤ c.args.room) (sym put) (one_more_member_deep c.of-name.result (tree_of v) old c.args.room l.invariant.4 shallow),
+      subst (λ ms. members_depth ms ≤ c.args.room) (sym put) (one_more_member_deep c.in_ok-name-in-Ok-Some.name (tree_of v) old c.args.room l.invariant.4 shallow),
     )
 
 pub read_members-returns-in-Some-in_order-clause-meant : goal.read_members-returns-in-Some-in_order-clause-meant
@@ -104,11 +104,11 @@ read_members-returns-in-Some-in_order-clause-meant t c =
     let all : members_of c.of.result ≡ old = ap members_of c.of.ensures ∙ c.in-Some-in_order.ensures.put in
     l.invariant.2 ∙ members_over p old n l.reader c.next_key.new.self l.invariant.1 (grind arith) ∙ ap (λ ms. Some (ms, c.next_key.new.self)) (sym all)
 
-pub read_next-returns-in_ok-from_str-in-String-clause-meant : goal.read_next-returns-in_ok-from_str-in-String-clause-meant
-read_next-returns-in_ok-from_str-in-String-clause-meant t c =
+pub read_next-returns-in_ok-copy_of-in-String-clause-meant : goal.read_next-returns-in_ok-copy_of-in-String-clause-meant
+read_next-returns-in_ok-copy_of-in-String-clause-meant t c =
     let room = c.args.room + spare_levels in
     let is : c.args.reader.now ≡ Token.string c.in-String.text.now ∷ c.next.new.self = c.in-Some.ensures.value ∙ ap (λ k. token_of k ∷ c.next.new.self) c.in-String.is in
-    let seen : c.of.result ≡ c.in-String.text.now = search rules in
+    let seen : c.in_ok-copy_of-in-String.field-0 ≡ c.in-String.text.now = search rules in
     ap (converted document_in) (ap (value room) is ∙ value_is room _) ∙ ap (λ s. Some (leaf (text s), c.next.new.self)) (sym seen)
 
 pub read_next-returns-in-Some-int_of-clause-meant : goal.read_next-returns-in-Some-int_of-clause-meant
