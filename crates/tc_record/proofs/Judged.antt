@@ -12,7 +12,7 @@ use Rattle.tc_record.proofs.Stacks.{not_close}
 
 -- ---- a walk by its first step
 
-abbrev Stepped : Type 0
+abbrev pub Stepped : Type 0
 Stepped = Token walk.Key Scalar × List walk.Level × walk.Columns
 
 abbrev and_further : walk.Format → List ℕ → Stepped → Option (List (Token walk.Key Scalar))

@@ -14,15 +14,12 @@ use Rattle.tc_record.specs.Held.{tokens_held, tokens_left}
 use Rattle.tc_record.specs.declared.sections.Sections.{Sections}
 use Rattle.tc_record.specs.declared.walking.Walk.{Walk}
 use Rattle.tc_record.specs.Stack.{is_array, kind_of, kinds_of}
-use Rattle.tc_record.proofs.Judged.{Labelled, Valued, valued}
+use Rattle.tc_record.proofs.Judged.{Labelled, Stepped, Valued, valued}
 use Rattle.tc_record.proofs.Labels.{if_parts}
 use Rattle.tc_record.proofs.Stacks.{not_close, kinds_of-read}
 
 abbrev Tokens : Type 0
 Tokens = List (Token Key Scalar)
-
-abbrev Stepped : Type 0
-Stepped = Token Key Scalar × List Level × Columns
 
 -- the parts of a step
 abbrev by_name : Name × Columns → Option Labelled
@@ -31,7 +28,7 @@ by_name n = Some (Some (name n.0), in_object (Some n.0), n.1)
 abbrev by_number : Columns → ℕ × List ℕ → Option Labelled
 by_number c n = Some (Some (number n.0), in_object None, record c { slots = n.1 })
 
-abbrev opening : List Level → Valued → Option Stepped
+abbrev pub opening : List Level → Valued → Option Stepped
 opening levels v = opened v.0.piece (v.1 ∷ levels) >>= λ inner. Some (v.0, inner, v.2)
 
 nameless_again : (levels : List Level) → map nameless (map nameless levels) ≡ map nameless levels
@@ -105,16 +102,17 @@ walk_known (tag ∷ tags) f levels c ts gives =
     let u = then_parts (walk f tags s.0.1 s.0.2) _ ts s.2 in
     rw (step_known f tag levels c s.0 s.1, walk_known tags f s.0.1 s.0.2 u.0 u.1) u.2
 
+-- the tokens behind the first one, and that
+abbrev pub with_first : Tokens → Option Tokens
+with_first ts = Some (token None object_opened ∷ ts)
+
 -- so do the tokens of a record that has some
 pub tokens_again : (s : Sections) (w : Walk) → w.format ≡ s.format → columns_of w.columns ≡ cut_columns_of s.columns → kinds_of w.kinds.arrays w.kinds.depth ≡ in_object None ∷ [] → is_some (tokens_held s) ≡ true
     → tokens_left false s.tags.now w ≡ tokens_held s
 tokens_again s w format columns kinds some = by_tags s.tags.now some
   where
-    behind_first : Tokens → Option Tokens
-    behind_first ts = Some (token None object_opened ∷ ts)
-
-    by_walk : (tags : List ℕ) (o : Option Tokens) (opens : Bool) → walk (format_of s.format) tags (in_object None ∷ []) (cut_columns_of s.columns) ≡ o → is_some (if opens then (o >>= behind_first) else None) ≡ true
-        → (if opens then (known_walk (format_of s.format) tags (in_object None ∷ []) (cut_columns_of s.columns) >>= behind_first) else None) ≡ (if opens then (o >>= behind_first) else None)
+    by_walk : (tags : List ℕ) (o : Option Tokens) (opens : Bool) → walk (format_of s.format) tags (in_object None ∷ []) (cut_columns_of s.columns) ≡ o → is_some (if opens then (o >>= with_first) else None) ≡ true
+        → (if opens then (known_walk (format_of s.format) tags (in_object None ∷ []) (cut_columns_of s.columns) >>= with_first) else None) ≡ (if opens then (o >>= with_first) else None)
     by_walk tags o false e is = refl
     by_walk tags None true e is = cc
     by_walk tags (Some ts) true e is = rw (walk_known tags (format_of s.format) (in_object None ∷ []) (cut_columns_of s.columns) ts e) refl
@@ -130,7 +128,7 @@ kind_nameless : (in_array : Bool) → nameless (kind_of in_array) ≡ kind_of in
 kind_nameless true = refl
 kind_nameless false = refl
 
-kinds_nameless : (a n : ℕ) → map nameless (kinds_of a n) ≡ kinds_of a n
+pub kinds_nameless : (a n : ℕ) → map nameless (kinds_of a n) ≡ kinds_of a n
 kinds_nameless a zero = refl
 kinds_nameless a (suc n) = rw (kind_nameless (is_array a)) (ap (λ ls. kind_of (is_array a) ∷ ls) (kinds_nameless (a / 2) n))
 

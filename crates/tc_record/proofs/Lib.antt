@@ -32,6 +32,8 @@ pub mod RecordRows
 pub mod OneDocument
 pub mod StoredRecords
 pub mod KnownWalks
+mod TokensPassed
+pub mod LevelsBehind
 mod Told
 mod CutNames
 mod WholeTexts

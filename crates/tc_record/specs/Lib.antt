@@ -1,4 +1,5 @@
 pub mod Preorder
+pub mod Behind
 pub mod Record
 pub mod StoredRecord
 pub mod StoredTest

@@ -1,11 +1,13 @@
 //! A cursor over the tokens of a record.
 
 ghost use Rattle.std.specs.Prelude.{◌≡◌, ◌++◌, [], false, Some, None, IfNone, IsTrue, if◌then◌else◌, is_some, unwrap_or, option_map, option_to_list};
+ghost use Rattle.tc_record.specs.Behind.{behind_close};
 ghost use Rattle.tc_record.specs.Preorder.{token, object_opened};
 ghost use Rattle.tc_record.specs.Walk.{known_step};
 ghost use Rattle.tc_record.specs.WalkView.{token_of, columns_of, format_of};
 ghost use Rattle.tc_record.specs.Stack.{kinds_of};
 
+use crate::passing::tags_behind_close;
 use crate::token::{Label, Piece, Token};
 use crate::walking::Walk;
 use std::marker::Model;
@@ -72,6 +74,22 @@ impl<'a> Cursor<'a> {
         self.tags = rest;
         self.started = true;
         token
+    }
+
+    /// Passes the tokens up to the close of the innermost array or object that is open, and that close. Takes no memory.
+    pub fn pass_to_close(&mut self)
+        ensures { self.new ≡ behind_close self.old }
+    {
+        if self.started {
+            self.tags = tags_behind_close(self.tags, &mut self.walk);
+            return;
+        }
+        // the first token opens an object, which is to be closed too
+        if let Some((_first, rest)) = u8_at(self.tags) {
+            let inner = tags_behind_close(rest, &mut self.walk);
+            self.tags = tags_behind_close(inner, &mut self.walk);
+            self.started = true;
+        }
     }
 }
 

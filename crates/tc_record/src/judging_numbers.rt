@@ -1,7 +1,8 @@
 //! Whether columns spell the tokens of a record of form 1 or 2. Members of its objects carry numbers, which may come in any
 //! order, so that of what is open it is enough to know which are arrays.
 
-ghost use Rattle.std.specs.Prelude.{◌≡◌, ◌∷◌, [], None, false, is_some, if◌then◌else◌};
+ghost use Rattle.std.specs.Prelude.{◌≡◌, ◌≢◌, ◌<◌, ◌∷◌, [], None, false, is_some, if◌then◌else◌};
+ghost use Rattle.tc_record.specs.Record.{close_tag};
 ghost use Rattle.tc_record.specs.Walk.{walk, in_object, tokens_read};
 ghost use Rattle.tc_record.specs.Moves.{label_moves, token_moves};
 ghost use Rattle.tc_record.specs.WalkView.{columns_of, format_of};
@@ -51,6 +52,22 @@ fn passes(format: Format, tag: u8, kinds: &mut Kinds, columns: &mut Columns<'_>)
         kinds.close();
         return true;
     }
+    passes_value(format, tag, kinds, columns)
+}
+
+/// Whether a value of this tag, or the opening of one, stands next in what is open.
+#[inline(always)]
+pub(crate) fn passes_value(
+    format: Format,
+    tag: u8,
+    kinds: &mut Kinds,
+    columns: &mut Columns<'_>,
+) -> bool
+    requires numbered { format.named ≡ false }
+    requires inside { 0 < kinds.old.depth }
+    requires value { tag ≢ close_tag }
+    ensures { token_moves (format_of format) tag (kinds_of kinds.old.arrays kinds.old.depth) (columns_of columns.old) ≡ (if result then Some (kinds_of kinds.new.arrays kinds.new.depth, columns_of columns.new) else None) }
+{
     if !passes_label(format, kinds.arrays % 2 == 1, columns) {
         return false;
     }
@@ -69,8 +86,5 @@ fn passes_label(format: Format, in_array: bool, columns: &mut Columns<'_>) -> bo
     if in_array {
         return true;
     }
-    match columns.slots.next() {
-        None => false,
-        Some(_number) => true,
-    }
+    columns.slots.passes()
 }

@@ -18,6 +18,7 @@ mod measure;
 mod names_left;
 mod nesting;
 mod numbers;
+mod passing;
 mod reader;
 mod record_ref;
 mod scan;

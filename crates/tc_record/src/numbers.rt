@@ -1,6 +1,6 @@
 //! The numbers of a column, read one by one.
 
-ghost use Rattle.std.specs.Prelude.{◌≡◌, ◌≤◌, ◌<◌, ◌+◌, ◌-◌, ◌*◌, ◌^◌, ◌==◌, length, option_map};
+ghost use Rattle.std.specs.Prelude.{◌≡◌, ◌≤◌, ◌<◌, ◌+◌, ◌-◌, ◌*◌, ◌^◌, ◌==◌, length, option_map, if◌then◌else◌};
 ghost use Rattle.tc_bits.specs.Bits.{IsAligned};
 ghost use Rattle.tc_record.specs.Walk.{number_next};
 ghost use Rattle.tc_record.specs.NumbersLeft.{elements_from, HasWidth};
@@ -36,6 +36,19 @@ impl<'a> Numbers<'a> {
         self.left -= 1;
         self.place += u64::from(self.width);
         Some(number)
+    }
+
+    /// Whether a number is left, which is passed and not read.
+    #[inline(always)]
+    pub(crate) fn passes(&mut self) -> bool
+        ensures { option_map (λ n. n.1) (number_next (elements_from self.old.width self.old.place self.old.left self.old.bytes.now)) ≡ (if result then Some (elements_from self.new.width self.new.place self.new.left self.new.bytes.now) else None) }
+    {
+        if self.left == 0 {
+            return false;
+        }
+        self.left -= 1;
+        self.place += u64::from(self.width);
+        true
     }
 
     /// The numbers before the last one.
