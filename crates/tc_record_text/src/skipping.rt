@@ -6,11 +6,9 @@ ghost use Rattle.tc_record.specs.WalkView.{piece_of};
 ghost use Rattle.tc_record.specs.Building.{outer, value_read};
 ghost use Rattle.tc_compact.specs.Meant.{levels_meant};
 
-use crate::labels::closes;
 use tc_record::{Cursor, Piece};
 
 /// Moves a cursor past the value that a piece is or opens.
-#[cycle(skipping)]
 pub fn skip(cursor: &mut Cursor<'_>, piece: Piece<'_>)
     ensures behind { (names : List Name) → levels_meant names cursor.new ≡ (value_read (piece_of piece.entry) (levels_meant names cursor.old)).1 }
     ensures shorter { length cursor.new ≤ length cursor.old }
@@ -27,15 +25,9 @@ pub fn skip(cursor: &mut Cursor<'_>, piece: Piece<'_>)
 }
 
 /// Moves a cursor past the close of the innermost array or object.
-#[cycle(skipping)]
 pub fn skip_to_close(cursor: &mut Cursor<'_>)
     ensures behind { (names : List Name) → levels_meant names cursor.new ≡ outer (levels_meant names cursor.old) }
     ensures shorter { length cursor.new ≤ length cursor.old }
 {
-    while let Some(token) = cursor.next() {
-        if closes(token.value) {
-            break;
-        }
-        skip(cursor, token.value);
-    }
+    cursor.pass_to_close();
 }
