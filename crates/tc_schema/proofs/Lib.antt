@@ -1,7 +1,9 @@
 pub mod PlaceViews
 pub mod PlacesOfFields
 pub mod WritingLaws
-pub mod ValueLaws
+pub mod PlaceTexts
+pub mod PutInOrder
+pub mod FieldsByName
 pub mod FieldViews
 pub mod ReadingLaws
 pub mod PlaceCodec

@@ -3,4 +3,5 @@ pub mod Places
 pub mod Search
 pub mod Writing
 pub mod Values
+pub mod Ordered
 pub mod Reading

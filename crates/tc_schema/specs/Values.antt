@@ -1,10 +1,12 @@
--- The JSON value of a place, part by part.
-use Rattle.std.specs.Prelude.{ℕ, ◌==◌, List, [], ◌∷◌, ◌++◌, codes, if◌then◌else◌}
+-- The JSON value of a place, part by part, and its text.
+use Rattle.std.specs.Prelude.{ℕ, ◌==◌, Bool, true, false, List, [], ◌∷◌, ◌++◌, codes, if◌then◌else◌}
 use Rattle.serde_json.specs.Data as json
+use Rattle.serde_json.specs.Written.{compact_text, comma_if}
 use Rattle.tc_model.specs.Document.{Name}
-use Rattle.tc_schema_model.specs.Counted.{Counters, Below, Fields}
+use Rattle.tc_schema_model.specs.Counted.{Counters, total, Below, Fields}
 use Rattle.tc_schema_model.specs.SchemaTree.{item_node_of, field_nodes_of}
-use Rattle.tc_schema_model.specs.SchemaText.{count_member, kind_member, array_text, object_text, union_text, item_text, fields_text}
+use Rattle.tc_schema_model.specs.SchemaText.{count_member, kind_member, array_text, object_text, item_text, fields_text}
+use Rattle.tc_schema.specs.Writing.{kinds_in}
 
 -- a kind of this name, and where it is counted
 abbrev pub named_text : List ℕ → ℕ → json.Data
@@ -23,8 +25,28 @@ abbrev pub all_scalar_values : Counters → List json.Data
 all_scalar_values c =
     named_values (codes "null") c.nulls ++ (named_values (codes "boolean") c.booleans ++ (named_values (codes "integer") c.integers ++ named_values (codes "text") c.texts))
 
--- one kind is itself, and others are a union
-abbrev pub joined_text : ℕ → json.Items → json.Data
-joined_text n json.no_items = union_text n json.no_items
-joined_text n (json.item d json.no_items) = d
-joined_text n (json.item d (json.item e ds)) = union_text n (json.item d (json.item e ds))
+-- kinds with a comma before each that something stands before, and whether something stands before what comes next
+abbrev pub values_text : Bool → List json.Data → List ℕ
+values_text later [] = []
+values_text later (d ∷ ds) = comma_if later ++ (compact_text d ++ values_text true ds)
+
+abbrev pub is_later : Bool → List json.Data → Bool
+is_later later [] = later
+is_later later (d ∷ ds) = true
+
+-- the text of a number, and how that of each kind begins
+abbrev pub number_text : ℕ → List ℕ
+number_text n = compact_text (json.number (json.unsigned n))
+
+abbrev pub count_front : Bool → ℕ → List ℕ
+count_front later n = comma_if later ++ (codes "{\"count\":" ++ number_text n)
+
+-- what stands around the kinds of a union
+abbrev pub union_mark : List ℕ
+union_mark = codes ",\"kind\":\"union\",\"kinds\":["
+
+abbrev pub union_front : Counters → List ℕ
+union_front c = if kinds_in c == 1 then [] else count_front false (total c) ++ union_mark
+
+abbrev pub union_end : Counters → List ℕ
+union_end c = if kinds_in c == 1 then [] else codes "]}"

@@ -2,6 +2,7 @@
 #![tactic(auto)]
 
 mod bounds;
+mod by_name;
 mod counters;
 mod fault;
 mod laws;
@@ -9,7 +10,7 @@ mod paths;
 mod place;
 mod reading;
 mod search;
-mod values;
+mod text;
 mod whole;
 mod writing;
 

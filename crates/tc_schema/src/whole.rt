@@ -1,13 +1,13 @@
 //! A whole schema.
 
-ghost use Rattle.std.specs.Prelude.{◌≡◌, ◌≢◌, ◌↔◌, ◌≤◌, List, IfOk, IsErrOf, IsTrue};
+ghost use Rattle.std.specs.Prelude.{◌≡◌, ◌≢◌, ◌↔◌, ◌≤◌, ◌++◌, List, IfOk, OnOk, IsErrOf, IsTrue};
 ghost use Rattle.tc_schema_model.specs.Counted.{Counted, nothing, shows, total_at, IsCanonical, documents_of};
 ghost use Rattle.tc_schema_model.specs.Bounds.{greatest_total};
 ghost use Rattle.tc_schema_model.specs.Occurrences.{Path};
 ghost use Rattle.tc_schema_model.specs.SchemaText.{tree_text, schema_text};
 ghost use Rattle.tc_model.specs.Document.{Name, Document};
 ghost use Rattle.tc_schema_model.specs.Stands.{StandsFor};
-ghost use Rattle.serde_json.specs.View.{view};
+ghost use Rattle.serde_json.specs.Written.{compact_text};
 ghost use Rattle.tc_schema.specs.Paths.{path_meant};
 ghost use Rattle.tc_value.specs.Kinds.{kind_meant};
 ghost use Rattle.tc_schema_model.specs.SchemaTree.{schema_tree};
@@ -19,9 +19,8 @@ use crate::fault::SchemaFault;
 use crate::paths::count_from;
 use crate::place::Node;
 use crate::reading::{MAX_LEVELS, read_root};
-use crate::values::value_of_place;
+use crate::text::put_place_text;
 use crate::writing::put_place;
-use serde_json::Value;
 use std::alloc::{AllocError, Global};
 use std::marker::Model;
 use tc_bytes::{Bytes, Memory};
@@ -146,21 +145,27 @@ impl Schema {
         Ok(Schema { root })
     }
 
-    /// The schema's text as a JSON value. A number without a name has the empty name. Errs only for want of memory.
-    pub fn value(&self, alloc: Global, names: &Names) -> Result<Value, Memory>
-        ensures tree { IfOk result (λ v. view v ≡ tree_text names.now (schema_tree self.now)) }
-        ensures documents { IfOk result (λ v. (docs : List Document) → StandsFor names.now self.now docs → view v ≡ schema_text docs) }
+    /// Puts the schema's text after other text: compact JSON, whose members stand in ascending order. A number without a
+    /// name has the empty name. Errs only for want of memory, and then leaves some first part of the text.
+    pub fn put_text(
+        &self,
+        alloc: Global,
+        names: &Names,
+        out: &mut Vec<u8>,
+    ) -> Result<(), AllocError>
+        ensures tree { OnOk result (out.new.items ≡ out.old.items ++ compact_text (tree_text names.now (schema_tree self.now))) }
+        ensures documents { OnOk result ((docs : List Document) → StandsFor names.now self.now docs → out.new.items ≡ out.old.items ++ compact_text (schema_text docs)) }
     {
-        self.tree_value(alloc, names)
+        self.put_tree(alloc, names, out)
     }
 
-    fn tree_value(&self, alloc: Global, names: &Names) -> Result<Value, Memory>
-        ensures { IfOk result (λ v. view v ≡ tree_text names.now (schema_tree self.now)) }
+    fn put_tree(&self, alloc: Global, names: &Names, out: &mut Vec<u8>) -> Result<(), AllocError>
+        ensures { OnOk result (out.new.items ≡ out.old.items ++ compact_text (tree_text names.now (schema_tree self.now))) }
     {
         if self.documents() == 0 {
-            return Ok(Value::Null);
+            return out.extend_from_slice(b"null");
         }
-        value_of_place(&self.root, names, alloc)
+        put_place_text(&self.root, names, alloc, out)
     }
 }
 
