@@ -2,6 +2,7 @@
 
 use crate::kept::Kept;
 use crate::no_answer::NoAnswer;
+use crate::texts::text_of_schema;
 use std::alloc::Global;
 use tc_names::Names;
 use tc_schema::Schema;
@@ -30,7 +31,7 @@ fn text_of(alloc: Global, names: &[u8], schema: &[u8]) -> Result<String, NoAnswe
     };
     share(&names);
     share(&schema);
-    let text = schema.value(alloc, &names)?.to_string(alloc)?;
+    let text = text_of_schema(alloc, &schema, &names)?;
     let number = names.id_of("a");
     Ok(format!(in alloc; "{} {number:?}", text.as_str())?)
 }

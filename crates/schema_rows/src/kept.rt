@@ -12,6 +12,7 @@ ghost use Rattle.tc_value.specs.ShapeMeaning.{shape_tree, shape_member};
 ghost use Rattle.tc_model.specs.TreeSize.{tree_size, trees_size, labelled_size};
 
 use crate::no_answer::NoAnswer;
+use crate::texts::text_of_schema;
 use std::alloc::Global;
 use std::marker::Model;
 use tc_count::{Inferred, infer, shapes_of};
@@ -103,16 +104,14 @@ impl Kept {
     }
 
     pub(crate) fn text(&self, alloc: Global) -> Result<String, NoAnswer> {
-        let value = self.schema.value(alloc, &self.names)?;
-        Ok(value.to_string(alloc)?)
+        text_of_schema(alloc, &self.schema, &self.names)
     }
 
     /// The text of the schema that is inferred from the documents.
     pub(crate) fn text_anew(&self, alloc: Global) -> Result<String, NoAnswer> {
         let _size = size_of_all(self.docs.as_slice(), alloc)?;
         let fresh = infer(alloc, self.docs.as_slice())?;
-        let value = fresh.schema.value(alloc, &fresh.names)?;
-        Ok(value.to_string(alloc)?)
+        text_of_schema(alloc, &fresh.schema, &fresh.names)
     }
 
     pub(crate) fn len(&self) -> usize {

@@ -11,6 +11,7 @@ mod chance;
 mod generated;
 mod kept;
 mod no_answer;
+mod texts;
 
 use chance::{Chance, some_document};
 use kept::Kept;
