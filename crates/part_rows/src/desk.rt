@@ -237,7 +237,7 @@ impl Desk {
 
     /// The text of the schema.
     pub(crate) fn schema(&self, alloc: Global) -> Option<String> {
-        self.part.schema(alloc).ok()?.to_string(alloc).ok()
+        text_word(alloc, &self.part.schema(alloc).ok()?)
     }
 
     /// Closes the partition.
@@ -279,7 +279,7 @@ fn text_word(alloc: Global, text: &Bytes) -> Option<String> {
 
 fn rows_text(alloc: Global, rows: Rows) -> Option<String> {
     let mut line = Vec::new(alloc);
-    put_line(alloc, &Reply::Rows(rows), &mut line).ok()?;
+    put_line(&Reply::Rows(rows), &mut line).ok()?;
     let text = str::from_utf8(&line).ok()?;
     String::from_str(alloc, text.trim_end()).ok()
 }

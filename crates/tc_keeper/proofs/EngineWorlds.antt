@@ -1,12 +1,13 @@
 -- Engines that stand at a world that may not be known, behind each call.
-use Rattle.std.proofs.Common.{◌≡◌, ◌∙◌, ◌<◌, ℕ, suc, true, List, [], ◌∷◌, length, map, refl, ap, subst, inl}
+use Rattle.std.proofs.Common.{◌≡◌, ◌∙◌, ◌<◌, ℕ, suc, true, List, [], ◌∷◌, length, map, refl, sym, ap, subst, inl}
 use Rattle.std.specs.List.{AllByRecursion}
 use Rattle.std.specs.Prelude.{Option, Some, None, Result, Ok, Err, IfOk, OnErr, OnOk, slice_get, zip}
-use Rattle.serde_json.specs.View.{view}
-use Rattle.serde_json.specs.declared.value.Value.{Value}
+use Rattle.std.proofs.lemmas.Simd.{map-map}
+use Rattle.serde_json.specs.Written.{compact_text}
 use Rattle.tc_keeper.specs.EngineFaults.{IfOf, StopsFirst}
 use Rattle.tc_keeper.specs.Moving.{HasFailedMoving, StopsAt}
 use Rattle.tc_keeper.specs.Places.{AtEach}
+use Rattle.tc_keeper.specs.SchemaTexts.{AreJsonTexts}
 use Rattle.tc_keeper.specs.Standing.{partition_at, HoldsPart, HoldWorld, IsSeen, KeepsPart, KeepWorlds}
 use Rattle.tc_keeper.specs.WithJobs.{told_of, works_of, WithJobs}
 use Rattle.tc_keeper.specs.declared.engines_fault.EnginesFault.{EnginesFault}
@@ -14,6 +15,7 @@ use Rattle.tc_keeper.specs.declared.engines_fault.EnginesFault.TheVariants as en
 use Rattle.tc_keeper.proofs.PlaceLaws.{at_each-so}
 use Rattle.tc_model.specs.Keyed.{Keyed, values_in, on_value}
 use Rattle.tc_request_model.specs.Rendered.{Rendered, rendered}
+use Rattle.tc_request_model.specs.Rendered as renders
 use Rattle.tc_request_model.specs.Reply.{Reply, schemas}
 use Rattle.tc_request_model.specs.Request.{Request, upsert, delete, get, query, flush, schema, scan, collect, refused}
 use Rattle.tc_schema_model.specs.SchemaText.{schema_text}
@@ -23,7 +25,7 @@ use Rattle.tc_lsm_model.specs.Contents.{Partition}
 use Rattle.tc_part_model.specs.PartState.{Told}
 use Rattle.tc_part_model.specs.PartView.{PartView}
 use Rattle.tc_run_model.specs.Kinds.{AreRenderedOfKinds}
-use Rattle.tc_run_model.specs.Known.{MayRender, MayReply}
+use Rattle.tc_run_model.specs.Known.{MayRender}
 use Rattle.tc_command.specs.Commands.{request_of_command}
 use Rattle.tc_run_model.specs.Replies.{replies_to, reply_to}
 use Rattle.tc_run_model.specs.World.{Part, World, after, after_all}
@@ -90,13 +92,18 @@ window_replied eyes es list (sees None w) texts stands for_parts kinds exact = (
   ap values_in (exact w stands) ∙ values_rendered (window_answered (map routed_of list) w) ∙ ap (map rendered) (answered_values list w),
 )
 
+-- texts of JSON values are of the kind of schemas
+schemas_rendered : (texts : List (List ℕ)) → AreJsonTexts texts → MayRender (schema ∷ []) None (renders.schemas texts ∷ [])
+schemas_rendered texts are = (schemas are.0 ∷ [], ((are.0, refl), tt), ap (λ ts. renders.schemas ts ∷ []) are.1)
+
 -- the schemas of the partitions, behind a flush
-pub schemas_replied : {S D F W E : Type 0} (eyes : Eyes S D F W) (es : List (WithJobs S D F W)) (known : Sight) (r : Result (List Value) E) → StandAt eyes es known
-    → ((w : World) → HoldWorld eyes None es w → IfOk r (λ shown. map view shown ≡ map (λ part. schema_text (documents part.now)) w.parts)) → IfOk r (λ shown. MayReply (schema ∷ []) (whole_of known) (schemas (map view shown) ∷ []))
-schemas_replied eyes es nothing (Ok shown) stands exact = ((map view shown, refl), tt)
-schemas_replied eyes es (sees (Some p) w) (Ok shown) stands exact = ((map view shown, refl), tt)
-schemas_replied eyes es (sees None w) (Ok shown) stands exact = (ap schemas (exact w stands), tt)
-schemas_replied eyes es known (Err e) stands exact = tt
+pub schemas_replied : {S D F W E : Type 0} (eyes : Eyes S D F W) (es : List (WithJobs S D F W)) (known : Sight) (r : Result (List (List ℕ)) E) → StandAt eyes es known → IfOk r AreJsonTexts
+    → ((w : World) → HoldWorld eyes None es w → IfOk r (λ shown. shown ≡ map (λ part. compact_text (schema_text (documents part.now))) w.parts)) → IfOk r (λ shown. MayRender (schema ∷ []) (whole_of known) (renders.schemas shown ∷ []))
+schemas_replied eyes es nothing (Ok shown) stands json exact = schemas_rendered shown json
+schemas_replied eyes es (sees (Some p) w) (Ok shown) stands json exact = schemas_rendered shown json
+schemas_replied eyes es (sees None w) (Ok shown) stands json exact =
+    (reply_to schema w ∷ [], (refl, tt), ap (λ texts. renders.schemas texts ∷ []) (exact w stands ∙ sym (map-map compact_text (λ part. schema_text (documents part.now)) w.parts)))
+schemas_replied eyes es known (Err e) stands json exact = tt
 
 -- ---- what is left
 

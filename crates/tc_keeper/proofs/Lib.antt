@@ -19,7 +19,6 @@ mod EnginesMoved
 mod EnginesSettled
 mod EnginesFlushed
 mod SchemasShown
-pub mod SchemaFloats
 pub mod Causes
 pub mod WindowLengths
 pub mod EachLaws

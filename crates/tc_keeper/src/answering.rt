@@ -1,22 +1,23 @@
 //! What the keeper asks of all engines at once: a fault of theirs is how the run ends.
 
 ghost use Rattle.std.specs.Prelude.{◌≡◌, ◌≤◌, ◌∷◌, ℕ, [], length, map, zip, All, None, Option, IfErr, IfOk, OnErr, OnOk};
-ghost use Rattle.serde_json.specs.View.{view};
+ghost use Rattle.serde_json.specs.Written.{compact_text};
 ghost use Rattle.tc_keeper.specs.Calls.{faults_of, settings_of, IsTrueOf, MayAsk, Rests};
 ghost use Rattle.tc_keeper.specs.Faults.{fault_in, HasDiskCause, IsNoDamage, IsOfStore};
 ghost use Rattle.tc_keeper.specs.Partitions.{fault_of_engines, window_fault_at, window_fault_of, StandAt};
 ghost use Rattle.tc_keeper.specs.Places.{AtEach};
+ghost use Rattle.tc_keeper.specs.SchemaTexts.{AreJsonTexts};
 ghost use Rattle.tc_keeper.specs.Sight.{sees, sight_after, whole_of, Sight};
 ghost use Rattle.tc_keeper.specs.Standing.{HoldWorld, KeepWorlds};
 ghost use Rattle.tc_keeper.specs.Together.{requests_routed, AreTogether};
 ghost use Rattle.tc_log.specs.Layout.{empty_size};
 ghost use Rattle.tc_model.specs.Keyed.{values_in};
 ghost use Rattle.tc_plain_model.specs.Store.{documents};
-ghost use Rattle.tc_request_model.specs.Reply.{schemas};
+ghost use Rattle.tc_request_model.specs.Rendered.{schemas};
 ghost use Rattle.tc_request_model.specs.Request.{flush, schema};
 ghost use Rattle.tc_route.specs.Meaning.{rendered_in, routed_of};
 ghost use Rattle.tc_route.specs.Shares.{share};
-ghost use Rattle.tc_run_model.specs.Known.{MayRender, MayReply};
+ghost use Rattle.tc_run_model.specs.Known.{MayRender};
 ghost use Rattle.tc_run_model.specs.World.{World, after_all};
 ghost use Rattle.tc_schema_model.specs.SchemaText.{schema_text};
 ghost use Rattle.tc_work.specs.Committed.{HasFramed};
@@ -130,7 +131,7 @@ where
     S::Watch: 'static,
     requires works { MayAsk S.history S.Device.history S.Frozen.content engines.old }
     ensures works { OnOk result (MayAsk S.history S.Device.history S.Frozen.content engines.new) }
-    ensures shown { (known : Sight) → StandAt ⟦<S as Seen>⟧.eyes engines.old known → IfOk result (λ shown. MayReply (schema ∷ []) (whole_of known) (schemas (map view shown) ∷ [])) }
+    ensures shown { (known : Sight) → StandAt ⟦<S as Seen>⟧.eyes engines.old known → IfOk result (λ shown. MayRender (schema ∷ []) (whole_of known) (schemas shown ∷ [])) }
     ensures held { (known : Sight) → StandAt ⟦<S as Seen>⟧.eyes engines.old known → OnOk result (StandAt ⟦<S as Seen>⟧.eyes engines.new (sight_after (schema ∷ []) known)) }
     ensures failed { (only : Option ℕ) (w : World) → StandAt ⟦<S as Seen>⟧.eyes engines.old (sees only w) → OnErr result (KeepWorlds ⟦<S as Seen>⟧.eyes only engines.new w w) }
     ensures undamaged { (only : Option ℕ) (w : World) → StandAt ⟦<S as Seen>⟧.eyes engines.old (sees only w) → IfErr result (IsNoDamage only) }
@@ -151,7 +152,8 @@ fn schemas_of<S: Store, P: Pace>(
     engines: &Engines<S, P>,
 ) -> Result<Schemas, RunFault>
     ensures shown { (w : World) → HoldWorld ⟦<S as Seen>⟧.eyes None engines.now w → All (λ e. e.engine.part.sealed ≡ None) engines.now → All (λ e. S.Device.size e.engine.part.log.device ≤ empty_size) engines.now
-        → IfOk result (λ shown. map view shown ≡ map (λ part. schema_text (documents part.now)) w.parts) }
+        → IfOk result (λ shown. shown ≡ map (λ part. compact_text (schema_text (documents part.now))) w.parts) }
+    ensures json { IfOk result AreJsonTexts }
     ensures memory { IfErr result (λ fault. fault ≡ RunFault.Memory) }
 {
     match engines.schemas(alloc) {

@@ -59,14 +59,13 @@ where
 #[tactic(auto, unfolding(crate::specs::Keeping::MayServe, crate::specs::Keeping::ServesAt, crate::specs::Keeping::FailsAt, crate::specs::Keeping::AllRest, crate::specs::Keeping::faults_kept, crate::specs::Keeping::HasSpent, crate::specs::Keeping::HasMet))]
 impl<S: Store, P: Pace> Keeper<S, P> {
     ghost use Rattle.std.specs.Prelude.{◌≡◌, ◌∷◌, [], ℕ, true, length, map, All, None, Some, Ok, Option, IfErr, IfOk, IfSome, is_some, OnErr, OnOk};
-    ghost use Rattle.serde_json.specs.View.{view};
     ghost use Rattle.tc_command.specs.Commands.{ask_of};
     ghost use Rattle.tc_command.specs.Replies.{rendered_of};
     ghost use Rattle.tc_model.specs.Keyed.{values_in};
-    ghost use Rattle.tc_request_model.specs.Reply.{schemas};
+    ghost use Rattle.tc_request_model.specs.Rendered.{schemas};
     ghost use Rattle.tc_request_model.specs.Request.{collect, flush, scan, schema};
     ghost use Rattle.tc_route.specs.Meaning.{rendered_in};
-    ghost use Rattle.tc_run_model.specs.Known.{MayRender, MayReply};
+    ghost use Rattle.tc_run_model.specs.Known.{MayRender};
     ghost use Rattle.tc_run_model.specs.World.{World, after_all};
     ghost use Rattle.tc_store.specs.declared.damage.Damage.{Damage};
     ghost use Rattle.tc_keeper.specs.Calls.{faults_of, settings_of, IsSpent, MayAsk, Rests};
@@ -192,7 +191,7 @@ impl<S: Store, P: Pace> Keeper<S, P> {
         P: 'static,
         requires works { MayServe S.history S.Device.history S.Frozen.content self.old }
         ensures works { OnOk result (MayServe S.history S.Device.history S.Frozen.content self.new) }
-        ensures shown { (known : Sight) → ServesAt ⟦<S as Seen>⟧.eyes self.old known → IfOk result (λ shown. MayReply (schema ∷ []) (whole_of known) (schemas (map view shown) ∷ [])) }
+        ensures shown { (known : Sight) → ServesAt ⟦<S as Seen>⟧.eyes self.old known → IfOk result (λ shown. MayRender (schema ∷ []) (whole_of known) (schemas shown ∷ [])) }
         ensures held { (known : Sight) → ServesAt ⟦<S as Seen>⟧.eyes self.old known → OnOk result (ServesAt ⟦<S as Seen>⟧.eyes self.new (sight_after (schema ∷ []) known)) }
         ensures failed { (only : Option ℕ) (w : World) → ServesAt ⟦<S as Seen>⟧.eyes self.old (sees only w) → OnErr result (FailsAt ⟦<S as Seen>⟧.eyes self.new only w (w)) }
         ensures undamaged { (only : Option ℕ) (w : World) → ServesAt ⟦<S as Seen>⟧.eyes self.old (sees only w) → IfErr result (IsNoDamage only) }

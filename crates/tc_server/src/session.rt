@@ -340,7 +340,7 @@ where
 {
     replies.clear();
     let reply = reply_whole(rt, alloc, keeper, control)?;
-    put_line(alloc, &reply, replies)?;
+    put_line(&reply, replies)?;
     Ok(())
 }
 

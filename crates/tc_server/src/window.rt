@@ -153,7 +153,7 @@ impl Window {
         let commands = mem::replace(&mut self.commands, Vec::new(alloc));
         let answers = keeper.window(rt, alloc, commands)?;
         replies.clear();
-        push_all(alloc, self.refusals.as_slice(), answers.as_slice(), replies)?;
+        push_all(self.refusals.as_slice(), answers.as_slice(), replies)?;
         self.refusals.clear();
         self.bytes = 0;
         Ok(())
@@ -163,7 +163,6 @@ impl Window {
 // Puts the reply lines of a window behind those that are there: to a refused line that it is refused, and to the others
 // the answers, in order. Errs only for want of memory.
 fn push_all(
-    alloc: Global,
     refusals: &[Option<Refusal>],
     answers: &[Placed],
     replies: &mut Vec<u8>,
@@ -173,10 +172,10 @@ fn push_all(
     let mut rest = answers;
     for refusal in refusals {
         match refusal {
-            Some(refusal) => put_line(alloc, &Reply::Refused(*refusal), replies)?,
+            Some(refusal) => put_line(&Reply::Refused(*refusal), replies)?,
             None => {
                 if let Some((first, more)) = rest.split_first() {
-                    put_line(alloc, &first.reply, replies)?;
+                    put_line(&first.reply, replies)?;
                     rest = more;
                 }
             }

@@ -40,7 +40,7 @@ fn put_replies(alloc: Global, replies: &Replies, out: &mut String) -> Option<()>
     for placed in replies.as_slice() {
         let at = placed.at;
         let mut text = Vec::new(alloc);
-        put_line(alloc, &placed.reply, &mut text).ok()?;
+        put_line(&placed.reply, &mut text).ok()?;
         out.push_str(format!(in alloc; "{at} ").ok()?.as_str())
             .ok()?;
         out.push_str(str::from_utf8(&text).ok()?).ok()?;

@@ -10,7 +10,7 @@ returns-in-Ok-clause-shown g c = λ known stands.
     schemas_replied (eyes g.S.Store.history g.S.Device.Device.history g.S.Frozen.Frozen.content g.S.Device.Device.name g.S.Frozen.Frozen.size g.S.Watch.Watch.counts)
     c.flush_all.new.engines known c.schemas_of.result (unflushed_stands
     (eyes g.S.Store.history g.S.Device.Device.history g.S.Frozen.Frozen.content g.S.Device.Device.name g.S.Frozen.Frozen.size g.S.Watch.Watch.counts)
-    c.flush_all.new.engines known (c.in-Ok.ensures.held known stands)) (λ w h. c.schemas_of.ensures.shown w h c.in-Ok.ensures.none_sealed c.in-Ok.ensures.emptied)
+    c.flush_all.new.engines known (c.in-Ok.ensures.held known stands)) c.schemas_of.ensures.json (λ w h. c.schemas_of.ensures.shown w h c.in-Ok.ensures.none_sealed c.in-Ok.ensures.emptied)
 
 pub returns-in-Ok-clause-held : goal.returns-in-Ok-clause-held
 returns-in-Ok-clause-held g c = λ known stands.

@@ -5,8 +5,6 @@ use Rattle.std.specs.Prelude.{OnOk}
 use denote.Param.{param}
 use denote.Param.Send.{IsSend, IsSync, sendable}
 use denote.Param.SendFields.{declared_send}
-use Rattle.serde_json.proofs.value.Value.TheLaws.TheKnot.{both_send-Value}
-use Rattle.serde_json.specs.contracts.value.Value as Value
 use Rattle.tc_bytes.proofs.byte_string.Bytes.TheSendSync.{the_send as bytes_send}
 use Rattle.tc_command.proofs.asks.PathExpr.TheSendSync.{the_sync as path_sync}
 use Rattle.tc_command.proofs.replies.Counts.TheSendSync.{the_send as upto_send}
@@ -147,10 +145,9 @@ for_each_mut-requires-send-T g c κs within =
     (InsideEngine.the_type (param 0 g.row.S) (param 1 g.row.P) (param 3 g.row.S-Watch) (param 4 g.row.S-Device) (param 5 g.row.S-Frozen) g.S.Store g.S.Watch.Watch
     g.S.Device.Device g.S.Frozen.Frozen) (search sendable depth 20, (search sendable depth 20, (search sendable depth 20, (search sendable depth 20, tt)))) in
     let engine : IsSend (Engine.the_field (param 0 g.row.S) (param 1 g.row.P) (param 3 g.row.S-Watch) (param 4 g.row.S-Device) (param 5 g.row.S-Frozen) g.S.Store g.S.Watch.Watch g.S.Device.Device g.S.Frozen.Frozen).row = search sendable depth 20 in
-    let value : IsSend (Value.the_field).row = search (sendable, crosses, maps_cross, both_send-Value) depth 20 in
     let row : IsSend (Row.the_field).row = search (sendable, bytes_send) depth 20 in
     let rows : IsSend (Rows.the_field).row = search (sendable, crosses) depth 20 in
-    let schemas : IsSend (Schemas.the_field).row = search (sendable, crosses) depth 20 in
+    let schemas : IsSend (Schemas.the_field).row = search (sendable, crosses, bytes_send) depth 20 in
     let reply : IsSend (Reply.the_field).row = search (sendable, upto_send, bytes_send) depth 60 in
     let placed : IsSend (Placed.the_field).row = search sendable depth 20 in
     let replies : IsSend (Replies.the_field).row = search (sendable, crosses) depth 20 in

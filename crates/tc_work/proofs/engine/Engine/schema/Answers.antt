@@ -1,6 +1,6 @@
 use Rattle.std.proofs.Common.{◌≡◌, ap, subst, sym}
 use Rattle.std.specs.Prelude.{IfOk}
-use Rattle.serde_json.specs.View.{view}
+use Rattle.serde_json.specs.Written.{compact_text}
 use Rattle.tc_model.specs.Keyed.{values_in}
 use Rattle.tc_part_model.specs.Meaning.{IsPart}
 use Rattle.tc_part_model.specs.PartState.{PartState, told}
@@ -22,7 +22,7 @@ returns-clause-text g c = λ p is tells none_sealed short.
     let laws = g.met.S.Device.Device g.world.𝓛 g.world.𝓜 g.world.𝓡 ((λ s x. x), (λ x. x), (λ x. x), λ x. x) in
     let device = c.args.self.now.part.log.device in
     let none = unwritten t p (g.S.Device.Device.size device) is tells.store (laws.told_size device) (laws.content_may_stay device) short in
-    subst (λ (pairs : Pairs). IfOk c.schema.result (λ v. view v ≡ schema_text (values_in pairs))) (sym (all_listed t p is none_sealed none)) (returns-clause-documents g c p is)
+    subst (λ (pairs : Pairs). IfOk c.schema.result (λ text. text ≡ compact_text (schema_text (values_in pairs)))) (sym (all_listed t p is none_sealed none)) (returns-clause-documents g c p is)
 
 pub returns-clause-tree : goal.returns-clause-tree
 returns-clause-tree g c = rw (← c.self.view_is) c.schema.ensures.tree
