@@ -2,5 +2,5 @@ use Rattle.std.proofs.Common.{rules}
 use Rattle.tc_model.proofs.TreeLists.{ascending_single}
 use Rattle.tc_memory.proofs.tests.document.Goals as goal
 
-pub of-requires-2 : goal.of-requires-2
-of-requires-2 c = search (rules, ascending_single)
+pub of-requires : goal.of-requires
+of-requires c = search (rules, ascending_single)
