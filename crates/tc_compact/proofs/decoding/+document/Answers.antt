@@ -25,7 +25,7 @@ value_behind-returns-in_err-members_behind-in-Object-clause-refused t c = λ is 
     c.in_err-members_behind-in-Object.ensures.refused (search rules) (object_holds label left here)
 
 pub value_behind-returns-in_ok-items_behind-in-Array-clause-ordered : goal.value_behind-returns-in_ok-items_behind-in-Array-clause-ordered
-value_behind-returns-in_ok-items_behind-in-Array-clause-ordered t c = items_ordered c.of-in-Array.result (subst (AllByRecursion IsOrdered) (sym c.of-in-Array.ensures) c.in_ok-items_behind-in-Array.ensures.ordered)
+value_behind-returns-in_ok-items_behind-in-Array-clause-ordered t c = items_ordered c.of.result (subst (AllByRecursion IsOrdered) (sym c.of.ensures) c.in_ok-items_behind-in-Array.ensures.ordered)
 
 pub value_behind-returns-in-Some-clause-ordered : goal.value_behind-returns-in-Some-clause-ordered
 value_behind-returns-in-Some-clause-ordered t c =
