@@ -3,8 +3,6 @@ mod LackedLabels
 mod FirstMember
 mod StoredShapes
 mod StoredLaws
-mod SameOutlines
-mod AlikeBytes
 mod AlikeShapes
 mod HeldParts
 mod ContentLaws

@@ -21,6 +21,7 @@ use Rattle.tc_compact.proofs.Agreeing.{same_order}
 use Rattle.tc_compact.proofs.Compacts.{Tokens, two_forms, document_names, document_tokens}
 use Rattle.tc_compact.proofs.NumberedTrees.{tree_tokens}
 use Rattle.tc_compact.proofs.NamedSizes.{named_most}
+use Rattle.tc_alike.proofs.Forms.{tree_form}
 use Rattle.tc_component.specs.Fetching.{IsRecordWithin}
 use Rattle.tc_component.proofs.EntryRecords.{kept, within_names, IsKept}
 use Rattle.tc_audit.specs.Lacking.{begins_behind, lacks_id}
@@ -42,12 +43,6 @@ stored_under version names bytes dictionary s =
 
 pub stored_numbered : (version : ℕ) (names : List Name) (bytes : List ℕ) → IsDictionary names → (s : IsStoredIn version names bytes) → IsNumberedRecordIn version (compacted names s.document) bytes
 stored_numbered version names bytes dictionary s = subst (IsNumberedRecordIn version (compacted names s.document)) (sym s.spelled) (kept_in version names bytes dictionary s).compact.numbered
-
--- the form of a record is that of each tree that its bytes spell
-pub tree_form : (r : Record) (form : ℕ) (n : NumberedTree) → Spells r → IsNumberedForm form → IsNumberedRecordIn form n r.bytes → r.form ≡ form
-tree_form r form n (inl one) told is = absurd (two_forms form (named_tokens one.0) (numbered_tokens n) (sym (document_again one.0 r.bytes one.1.1) ∙ numbered_again form told n r.bytes is))
-tree_form r form n (inr one) told is =
-    ap (λ (p : Format × Tokens). p.0.form) (same_Some _ _ (sym (numbered_again r.form one.1.3 one.0 r.bytes one.1.1) ∙ numbered_again form told n r.bytes is))
 
 stored_tokens : (names : List Name) (r : Record) → IsDictionary names → Spells r → (s : IsStoredIn r.form names r.bytes) → r.tokens ≡ numbered_tokens (compacted names s.document)
 stored_tokens names r dictionary spells s = tree_tokens r r.form (compacted names s.document) spells s.told (stored_numbered r.form names r.bytes dictionary s)
@@ -105,14 +100,6 @@ stored_by_tests names r d unnamed spells (inr (whole, is, under)) short lacks =
     }
 
 -- ---- what is tested
-
--- a record with names is short where it is with the longest name in place of each number, and four bytes for each length
-pub short_by_bound : (names : List Name) (r : Record) (n : NumberedTree) → Spells r → r.tokens ≡ numbered_tokens n → nat_lt (length r.bytes + (length (labels r.tokens) * (longest_of names + 4) + length (texts r.tokens) * 4)) (2 ^ 30) ≡ true
-    → length (record_of (expanded names n)) < 2 ^ 30
-short_by_bound names r n spells tokens test = under (length (record_of (expanded names n))) _ (let most = named_most names r n spells tokens in omega (arith, most)) test
-  where
-    under : (len most : ℕ) → len ≤ most → nat_lt most (2 ^ 30) ≡ true → len < 2 ^ 30
-    under len most less test = grind (arith, nat_tests)
 
 -- that a record is short, by the same record once more
 abbrev pub TellsShort : List Name → Record → Bool → Type 0

@@ -1,7 +1,6 @@
 //! Layer 3, files: an audit of components, which reads each record and counts all documents anew.
 #![tactic(auto)]
 
-mod alike;
 mod auditing;
 mod before;
 mod counting;

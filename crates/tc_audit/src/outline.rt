@@ -1,6 +1,6 @@
 //! A hash of what the records of documents of one shape have in common.
 
-use crate::alike::numbers_of;
+use tc_alike::numbers_of;
 use tc_record::RecordRef;
 
 /// An odd number whose bits are spread.

@@ -1,6 +1,6 @@
 //! Whether a record spells a document as it is stored.
 
-ghost use Rattle.std.specs.Prelude.{◌≡◌, ◌↔◌, ◌<◌, ◌+◌, ◌*◌, ◌^◌, IsTrue, Some, codes, length, nat_lt, false};
+ghost use Rattle.std.specs.Prelude.{◌≡◌, ◌↔◌, ◌<◌, ◌+◌, ◌^◌, IsTrue, Some, codes, length, false};
 ghost use Rattle.std.specs.List.{AllByRecursion};
 ghost use Rattle.tc_model.specs.Dictionary.{number_of};
 ghost use Rattle.tc_record.specs.Borrowed.{IsBelow, numbered_tokens};
@@ -13,6 +13,7 @@ ghost use Rattle.tc_compact.specs.Meant.{expanded, name_at};
 ghost use Rattle.tc_audit.specs.Lacking.{begins_behind, is_numbered, lacks, lacks_id};
 ghost use Rattle.tc_audit.specs.Stored.{IsStoredIn};
 
+use tc_alike::is_surely_short;
 use tc_compact::{expanded_size, spells_document};
 use tc_names::Names;
 use tc_record::{Label, Piece, RecordRef};
@@ -51,31 +52,13 @@ fn is_short(of: RecordRef<'_>, names: &Names) -> bool
     requires numbered { of.named ≡ false }
     ensures { (n : NumberedTree) → of.entry.tokens ≡ numbered_tokens n → IsTrue result ↔ AllByRecursion (IsBelow (length names.now)) (labels of.entry.tokens) × (length (record_of (expanded names.now n)) < 2 ^ 30) }
 {
-    let bytes = of.bytes();
-    if of.numbers_below(names.len())
-        && is_short_with_names(
-            bytes.len(),
-            of.member_count(),
-            of.text_count(),
-            names.longest_name(),
-        )
-    {
+    if of.numbers_below(names.len()) && is_surely_short(&of, names) {
         return true;
     }
     match expanded_size(of, names) {
         Some(len) => len < LONG,
         None => false,
     }
-}
-
-/// Whether a record of so many bytes, members and texts is short with a name in place of each number, and names of at most so
-/// many bytes. The slot of a name has at most four bytes, and so has the length of a text.
-pub(crate) fn is_short_with_names(len: usize, members: u32, texts: u32, longest: u32) -> bool
-    ensures { result ≡ nat_lt (len + (members * (longest + 4) + texts * 4)) (2 ^ 30) }
-{
-    let slots = u64::from(members).saturating_mul(u64::from(longest) + 4);
-    let most = slots.saturating_add(u64::from(texts) * 4);
-    most.saturating_add(len as u64) < u64::from(LONG)
 }
 
 /// Whether the first member of the outermost object is called by a name behind `id`. As names ascend all others are then too.

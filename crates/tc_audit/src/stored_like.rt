@@ -5,8 +5,7 @@ ghost use Rattle.tc_model.specs.Document.{document_shape};
 ghost use Rattle.tc_audit.specs.Stored.{IsStoredIn};
 ghost use Rattle.tc_audit.specs.Told.{document_in};
 
-use crate::alike::is_alike;
-use crate::stored::is_short_with_names;
+use tc_alike::spells_like;
 use tc_compact::document_meant;
 use tc_names::Names;
 use tc_record::RecordRef;
@@ -21,13 +20,7 @@ pub(crate) fn is_stored_like(of: &RecordRef<'_>, other: &[u8], names: &Names) ->
 {
     // that the names are a dictionary, that the bytes spell a numbered tree, and what the tokens of a record mean
     let _known = names.len();
-    let bytes = of.bytes();
+    let _bytes = of.bytes();
     document_meant();
-    is_alike(of, other)
-        && is_short_with_names(
-            bytes.len(),
-            of.member_count(),
-            of.text_count(),
-            names.longest_name(),
-        )
+    spells_like(of, other, names)
 }

@@ -1,7 +1,7 @@
 use Rattle.std.proofs.Common.{◌∙◌, ◌-◌, length, sym}
 use Rattle.std.proofs.lemmas.List.{take_rest}
 use Rattle.std.proofs.lemmas.Slice.Eq.{bytes_eq-Decides}
-use Rattle.tc_audit.proofs.alike.ends_alike.Goals as goal
+use Rattle.tc_alike.proofs.alike.ends_alike.Goals as goal
 
 pub returns : goal.returns
 returns c = λ same.

@@ -1,9 +1,9 @@
 use Rattle.std.proofs.Common.{◌≡◌, ◌∙◌, ◌+◌, ◌-◌, length, take, drop, refl, sym, subst, arith}
 use Rattle.tc_record.specs.Preorder.{tokens_of}
 use Rattle.tc_record.specs.Record.{tags, labels, IsNumberedRecordIn}
-use Rattle.tc_audit.proofs.AlikeBytes.{alike_by_bytes, equal_by, numbers_counted, tags_counted}
-use Rattle.tc_audit.proofs.StoredLaws.{tree_form}
-use Rattle.tc_audit.proofs.alike.is_alike.Goals as goal
+use Rattle.tc_alike.proofs.AlikeBytes.{alike_by_bytes, equal_by, numbers_counted, tags_counted}
+use Rattle.tc_alike.proofs.Forms.{tree_form}
+use Rattle.tc_alike.proofs.alike.is_alike.Goals as goal
 
 pub returns : goal.returns
 returns c = λ same own form n m told is that.

@@ -5,7 +5,7 @@ use Rattle.tc_model.specs.Document.{Scalar, ScalarKind, null_kind, boolean_kind,
 use Rattle.tc_model.specs.Kinds.{scalar_tag}
 use Rattle.tc_record.specs.Preorder.{closed, Token, token, tokens_of, preorder, items_preorder, members_preorder}
 use Rattle.tc_record.specs.Record.{tags, labels, NumberedTree}
-use Rattle.tc_audit.specs.Alike.{AreAlike}
+use Rattle.tc_alike.specs.Alike.{AreAlike}
 
 abbrev Tokens : Type 0
 Tokens = List (Token ℕ Scalar)

@@ -4,7 +4,7 @@ ghost use Rattle.std.specs.Prelude.{◌≡◌, ◌≤◌, ◌-◌, ℕ, IfSome, 
 ghost use Rattle.tc_bits.specs.Bits.{column_size};
 ghost use Rattle.tc_record.specs.Preorder.{tokens_of};
 ghost use Rattle.tc_record.specs.Record.{NumberedTree, IsNumberedForm, IsNumberedRecordIn, spelling_of};
-ghost use Rattle.tc_audit.specs.Alike.{AreAlike};
+ghost use Rattle.tc_alike.specs.Alike.{AreAlike};
 
 use tc_bits::size_of_column;
 use tc_record::{HEADER_SIZE, PACKED_FORM, RecordRef};
@@ -23,7 +23,7 @@ const WIDTH_AT: usize = 22;
 
 /// Whether other bytes have the form, the tags and the numbers of a record without names, each where it stands in one. The
 /// numbers come last. Takes no memory, and looks at no value.
-pub(crate) fn is_alike(of: &RecordRef<'_>, other: &[u8]) -> bool
+pub fn is_alike(of: &RecordRef<'_>, other: &[u8]) -> bool
     ensures { IsTrue result → (own form : ℕ) (n m : NumberedTree) → IsNumberedForm own → IsNumberedRecordIn own n of.now.bytes → IsNumberedRecordIn form m other.now → AreAlike (tokens_of n) (tokens_of m) }
 {
     let bytes = of.bytes();
@@ -69,7 +69,7 @@ fn ends_alike(bytes: &[u8], other: &[u8], size: usize) -> bool
 }
 
 /// The bytes in which the numbers of a record without names stand, or none. Takes no memory.
-pub(crate) fn numbers_of<'a>(of: &RecordRef<'a>) -> &'a [u8] {
+pub fn numbers_of<'a>(of: &RecordRef<'a>) -> &'a [u8] {
     let bytes = of.bytes();
     let tagged = HEADER_SIZE + of.token_count() as usize;
     if bytes.len() < tagged {

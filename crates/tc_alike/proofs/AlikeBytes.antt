@@ -19,7 +19,7 @@ use Rattle.tc_record.proofs.NumberColumns.{numbers_again}
 use Rattle.tc_record.proofs.Reading.{numbers_small}
 use Rattle.tc_record.proofs.Spellings.{form_spells}
 use Rattle.tc_compact.proofs.NumberedTrees.{tree_tokens}
-use Rattle.tc_audit.specs.Alike.{AreAlike}
+use Rattle.tc_alike.specs.Alike.{AreAlike}
 
 -- ---- the bytes of one record
 
