@@ -7,6 +7,8 @@ pub mod LiveKeys
 pub mod StoredKeys
 pub mod RowSteps
 pub mod Spelled
+mod Harms
+mod KnownRecords
 pub mod WalkSteps
 pub mod WindowReads
 pub mod ListedRows

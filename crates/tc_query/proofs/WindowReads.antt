@@ -21,7 +21,9 @@ use Rattle.tc_component.specs.declared.found.Found.TheVariants.{At}
 use Rattle.tc_component.specs.declared.found.Place.{Place}
 use Rattle.tc_component.specs.declared.slot.Slot.{Slot}
 use Rattle.tc_query.proofs.WalkSteps.{get_set, get_zeros}
-use Rattle.tc_query.specs.Windows.{record_bytes, most_windows, AreCursors, IsRead, AreRead}
+use Rattle.tc_query.specs.Readers.{reads_nothing, IsReaderOf, AreReaders}
+use Rattle.tc_query.specs.Windows.{record_bytes, most_windows, IsRead, AreRead}
+use Rattle.tc_query.specs.declared.reader.Reader.{Reader}
 use Rattle.tc_store.specs.Counted.{Counts}
 
 -- ---- the bytes before an entry
@@ -192,32 +194,32 @@ within_windows cs reads few = elim (cases_lt (sum_by (λ r. r) reads) (length cs
       omega (arith, parts, at_least)
 ]
 
-pub start_read : {F : Type 0} (cs : List (ComponentState F)) (cursors : List CursorState) (first : ℕ) → AreRead 0 cs cursors first first
-start_read cs cursors first = record {
+pub start_read : {F : Type 0} (cs : List (ComponentState F)) (readers : List Reader) (first : ℕ) → AreRead 0 cs readers first first
+start_read cs readers first = record {
   reads = replicate (length cs) 0;
   many = length-replicate (length cs) 0;
   each = λ n r c k one two three. inl (get_zeros (length cs) n r three);
   together = omega arith;
 }
 
-pub later_reads : {F : Type 0} (low high : ℕ) (cs : List (ComponentState F)) (cursors : List CursorState) (first now : ℕ) → low ≤ high → AreRead low cs cursors first now → AreRead high cs cursors first now
-later_reads low high cs cursors first now order a = record {
+pub later_reads : {F : Type 0} (low high : ℕ) (cs : List (ComponentState F)) (readers : List Reader) (first now : ℕ) → low ≤ high → AreRead low cs readers first now → AreRead high cs readers first now
+later_reads low high cs readers first now order a = record {
   reads = a.reads;
   many = a.many;
-  each = λ n r c k one two three. later_read low high c.index.slots k r order (a.each n r c k one two three);
+  each = λ n r c k one two three. later_read low high c.index.slots k.cursor r order (a.each n r c k one two three);
   together = a.together;
 }
 
-pub reads_few : {F : Type 0} (low : ℕ) (cs : List (ComponentState F)) (cursors : List CursorState) (first now : ℕ) → length cursors ≡ length cs → AreRead low cs cursors first now → now ≤ first + most_windows cs
-reads_few low cs cursors first now many a =
+pub reads_few : {F : Type 0} (low : ℕ) (cs : List (ComponentState F)) (readers : List Reader) (first now : ℕ) → length readers ≡ length cs → AreRead low cs readers first now → now ≤ first + most_windows cs
+reads_few low cs readers first now many a =
     let few = within_windows cs a.reads (total_few cs a.reads a.many (λ n r c one two.
-    let k = get_or cursors n holds_nothing in
-    few_read low c.index.slots k r (a.each n r c k one (slice_get-get_or cursors n holds_nothing (subst (λ m. n < m) (sym many) (slice_get_within cs n c one))) two))) in
+    let k = get_or readers n reads_nothing in
+    few_read low c.index.slots k.cursor r (a.each n r c k one (slice_get-get_or readers n reads_nothing (subst (λ m. n < m) (sym many) (slice_get_within cs n c one))) two))) in
     let together = a.together in
     omega (arith, few, together)
 
-module _ {F : Type 0} (low high : ℕ) (cs : List (ComponentState F)) (cursors : List CursorState) (first now after at more : ℕ) (c : ComponentState F) (k new : CursorState) (here : slice_get cs at ≡ Some c) (there : slice_get cursors at ≡ Some k)
-    (counted : after ≤ now + more) (a : AreRead low cs cursors first now) where
+module _ {F : Type 0} (low high : ℕ) (cs : List (ComponentState F)) (readers : List Reader) (first now after at more : ℕ) (c : ComponentState F) (k new : Reader) (here : slice_get cs at ≡ Some c) (there : slice_get readers at ≡ Some k)
+    (counted : after ≤ now + more) (a : AreRead low cs readers first now) where
   abbrev one : ℕ
   one = get_or a.reads at 0
 
@@ -233,29 +235,29 @@ module _ {F : Type 0} (low high : ℕ) (cs : List (ComponentState F)) (cursors :
       let together = a.together in
       omega (arith, sums, together, counted)
 
-  -- the reads of one component and its cursor go on
-  reads_step : low ≤ high → ((r : ℕ) → IsRead low c.index.slots k r → IsRead high c.index.slots new (r + more)) → AreRead high cs (set cursors at new) first after
+  -- the reads of one component and its reader go on
+  reads_step : low ≤ high → ((r : ℕ) → IsRead low c.index.slots k.cursor r → IsRead high c.index.slots new.cursor (r + more)) → AreRead high cs (set readers at new) first after
   reads_step order goes = record {
     reads = set a.reads at (one + more);
     many = length-set a.reads at (one + more) ∙ a.many;
     each = λ n r d l one_is two_is three_is. elim (get_set a.reads at n (one + more) r three_is) [
-      | inl same ↦ elim (get_set cursors at n new l two_is) [
-        | inl cursor ↦
+      | inl same ↦ elim (get_set readers at n new l two_is) [
+        | inl reader ↦
             let d_is : c ≡ d = same_Some c d (sym here ∙ ap (slice_get cs) (sym same.0) ∙ one_is) in
-            subst (λ x. IsRead high d.index.slots l x) same.1
-            (subst (λ x. IsRead high d.index.slots x (one + more)) cursor.1 (subst (λ (x : ComponentState F). IsRead high x.index.slots new (one + more)) d_is (goes one (a.each at one c k here there was))))
+            subst (λ x. IsRead high d.index.slots l.cursor x) same.1
+            (subst (λ (x : Reader). IsRead high d.index.slots x.cursor (one + more)) reader.1 (subst (λ (x : ComponentState F). IsRead high x.index.slots new.cursor (one + more)) d_is (goes one (a.each at one c k here there was))))
         | inr old ↦ absurd (old.0 same.0)
       ]
-      | inr kept ↦ elim (get_set cursors at n new l two_is) [
-        | inl cursor ↦ absurd (kept.0 cursor.0)
-        | inr old ↦ later_read low high d.index.slots l r order (a.each n r d l one_is old.1 kept.1)
+      | inr kept ↦ elim (get_set readers at n new l two_is) [
+        | inl reader ↦ absurd (kept.0 reader.0)
+        | inr old ↦ later_read low high d.index.slots l.cursor r order (a.each n r d l one_is old.1 kept.1)
       ]
     ];
     together = together_more;
   }
 
   -- and are few
-  reads_bound : length cursors ≡ length cs → ((r : ℕ) → IsRead low c.index.slots k r → IsFew c.index.slots (r + more)) → after ≤ first + most_windows cs
+  reads_bound : length readers ≡ length cs → ((r : ℕ) → IsRead low c.index.slots k.cursor r → IsFew c.index.slots (r + more)) → after ≤ first + most_windows cs
   reads_bound many goes =
       let reads = set a.reads at (one + more) in
       let few = within_windows cs reads (total_few cs reads (length-set a.reads at (one + more) ∙ a.many) (λ n r d one_is three_is. elim (get_set a.reads at n (one + more) r three_is) [
@@ -263,8 +265,8 @@ module _ {F : Type 0} (low high : ℕ) (cs : List (ComponentState F)) (cursors :
             let d_is : c ≡ d = same_Some c d (sym here ∙ ap (slice_get cs) (sym same.0) ∙ one_is) in
             subst (λ x. IsFew d.index.slots x) same.1 (subst (λ (x : ComponentState F). IsFew x.index.slots (one + more)) d_is (goes one (a.each at one c k here there was)))
         | inr kept ↦
-            let l = get_or cursors n holds_nothing in
-            few_read low d.index.slots l r (a.each n r d l one_is (slice_get-get_or cursors n holds_nothing (subst (λ m. n < m) (sym many) (slice_get_within cs n d one_is))) kept.1)
+            let l = get_or readers n reads_nothing in
+            few_read low d.index.slots l.cursor r (a.each n r d l one_is (slice_get-get_or readers n reads_nothing (subst (λ m. n < m) (sym many) (slice_get_within cs n d one_is))) kept.1)
       ])) in
       let together = together_more in
       omega (arith, few, together)
@@ -280,8 +282,8 @@ has_or_not c at k = elim (cases_lt (record_place c.slots at) k.from) [
   ]
 ]
 
-module _ {F : Type 0} (cs : List (ComponentState F)) (cursors : List CursorState) (key n : ℕ) (c : ComponentState F) (place : Place) (k new : CursorState) (old now : Counts) (up : Ascend c.index.slots) (is_at : IsFound c.index.slots key (At place))
-    (here : slice_get cs n ≡ Some c) (there : slice_get cursors n ≡ Some k) (held : HasRecord c.index place.at k → (new ≡ k) × (now ≡ old)) (counted : (now.reads ≡ old.reads) ⊎ (now.reads ≡ next_count old.reads)) where
+module _ {F : Type 0} (cs : List (ComponentState F)) (readers : List Reader) (key n : ℕ) (c : ComponentState F) (place : Place) (k new : Reader) (old now : Counts) (up : Ascend c.index.slots) (is_at : IsFound c.index.slots key (At place))
+    (here : slice_get cs n ≡ Some c) (there : slice_get readers n ≡ Some k) (held : HasRecord c.index place.at k.cursor → (new.cursor ≡ k.cursor) × (now ≡ old)) (counted : (now.reads ≡ old.reads) ⊎ (now.reads ≡ next_count old.reads)) where
   same_reads : now ≡ old → now.reads ≤ old.reads + 0
   same_reads same = let reads : now.reads ≡ old.reads = ap (λ (x : Counts). x.reads) same in omega (arith, reads)
 
@@ -294,53 +296,53 @@ module _ {F : Type 0} (cs : List (ComponentState F)) (cursors : List CursorState
   no_more : (r : ℕ) → r ≡ r + 0
   no_more r = omega arith
 
-  pub record_read : ((HasRecord c.index place.at k → ⊥) → BeginsAtRecord c.index place.at new) → (low first : ℕ) → low ≤ key → AreRead low cs cursors first old.reads → AreRead (key + 1) cs (set cursors n new) first now.reads
-  record_read begins low first order a = elim (has_or_not c.index place.at k) [
+  pub record_read : ((HasRecord c.index place.at k.cursor → ⊥) → BeginsAtRecord c.index place.at new.cursor) → (low first : ℕ) → low ≤ key → AreRead low cs readers first old.reads → AreRead (key + 1) cs (set readers n new) first now.reads
+  record_read begins low first order a = elim (has_or_not c.index place.at k.cursor) [
     | inl has ↦
         let same = held has in
-        reads_step low (key + 1) cs cursors first old.reads now.reads n 0 c k new here there (same_reads same.1) a (omega (arith, order))
-        (λ r read. subst (λ x. IsRead (key + 1) c.index.slots new x) (no_more r) (later_read low (key + 1) c.index.slots new r (omega (arith, order)) (subst (λ x. IsRead low c.index.slots x r) (sym same.0) read)))
+        reads_step low (key + 1) cs readers first old.reads now.reads n 0 c k new here there (same_reads same.1) a (omega (arith, order))
+        (λ r read. subst (λ x. IsRead (key + 1) c.index.slots new.cursor x) (no_more r) (later_read low (key + 1) c.index.slots new.cursor r (omega (arith, order)) (subst (λ x. IsRead low c.index.slots x r) (sym same.0) read)))
     | inr apart ↦
-        reads_step low (key + 1) cs cursors first old.reads now.reads n 1 c k new here there once a (omega (arith, order))
-        (λ r read. one_more c.index low key place.at (slot key is_at.0) k new r up is_at.1 refl order apart (begins apart) read)
+        reads_step low (key + 1) cs readers first old.reads now.reads n 1 c k new here there once a (omega (arith, order))
+        (λ r read. one_more c.index low key place.at (slot key is_at.0) k.cursor new.cursor r up is_at.1 refl order apart (begins apart) read)
   ]
 
-  pub record_few : length cursors ≡ length cs → (low first : ℕ) → low ≤ key → AreRead low cs cursors first old.reads → now.reads ≤ first + most_windows cs
-  record_few many low first order a = elim (has_or_not c.index place.at k) [
+  pub record_few : length readers ≡ length cs → (low first : ℕ) → low ≤ key → AreRead low cs readers first old.reads → now.reads ≤ first + most_windows cs
+  record_few many low first order a = elim (has_or_not c.index place.at k.cursor) [
     | inl has ↦
-        reads_bound low (key + 1) cs cursors first old.reads now.reads n 0 c k new here there (same_reads (held has).1) a many (λ r read. subst (λ x. IsFew c.index.slots x) (no_more r) (few_read low c.index.slots k r read))
+        reads_bound low (key + 1) cs readers first old.reads now.reads n 0 c k new here there (same_reads (held has).1) a many (λ r read. subst (λ x. IsFew c.index.slots x) (no_more r) (few_read low c.index.slots k.cursor r read))
     | inr apart ↦
-        reads_bound low (key + 1) cs cursors first old.reads now.reads n 1 c k new here there once a many (λ r read. one_few c.index low key place.at (slot key is_at.0) k r is_at.1 refl order apart read)
+        reads_bound low (key + 1) cs readers first old.reads now.reads n 1 c k new here there once a many (λ r read. one_few c.index low key place.at (slot key is_at.0) k.cursor r is_at.1 refl order apart read)
   ]
 
--- ---- cursors
+-- ---- readers
 
-pub start_cursors : {F : Type 0} (told : F → Option (List ℕ)) (cs : List (ComponentState F)) (cursors : List CursorState) (count : ℕ) → cursors ≡ replicate count holds_nothing → count ≡ length cs → AreCursors told cs cursors
-start_cursors told cs cursors count is many = record {
-  many = ap (λ (ks : List CursorState). length ks) is ∙ length-replicate count holds_nothing ∙ many;
-  each = λ n c k here there. subst (HoldsPart (told c.file)) (sym (get_same count n k (ap (λ ks. slice_get ks n) (sym is) ∙ there))) (nothing (told c.file));
+pub start_readers : {F : Type 0} (told : F → Option (List ℕ)) (cs : List (ComponentState F)) (readers : List Reader) (count : ℕ) → readers ≡ replicate count reads_nothing → count ≡ length cs → AreReaders told cs readers
+start_readers told cs readers count is many = record {
+  many = ap (λ (ks : List Reader). length ks) is ∙ length-replicate count reads_nothing ∙ many;
+  each = λ n c k here there. subst (IsReaderOf told c) (sym (get_same count n k (ap (λ ks. slice_get ks n) (sym is) ∙ there))) (record { holds = nothing (told c.file); knows = inl refl });
 }
   where
-    get_same : (m n : ℕ) (k : CursorState) → slice_get (replicate m holds_nothing) n ≡ Some k → k ≡ holds_nothing
+    get_same : (m n : ℕ) (k : Reader) → slice_get (replicate m reads_nothing) n ≡ Some k → k ≡ reads_nothing
     get_same zero n k here = absurd (cc)
-    get_same (suc m) zero k here = sym (same_Some holds_nothing k here)
+    get_same (suc m) zero k here = sym (same_Some reads_nothing k here)
     get_same (suc m) (suc n) k here = get_same m n k here
 
     nothing : (content : Option (List ℕ)) → HoldsPart content holds_nothing
     nothing None = tt
     nothing (Some bytes) = refl
 
-pub pushed_cursor : (old new : List CursorState) (n : ℕ) (k : CursorState) → new ≡ old ++ k ∷ [] → k ≡ holds_nothing → old ≡ replicate n holds_nothing → new ≡ replicate (n + 1) holds_nothing
-pushed_cursor old new n k pushed is before = pushed ∙ ap (λ x. old ++ x ∷ []) is ∙ ap (λ (ks : List CursorState). ks ++ holds_nothing ∷ []) before ∙ replicate-append-replicate n 1 holds_nothing
+pub pushed_reader : (old new : List Reader) (n : ℕ) (k : Reader) → new ≡ old ++ k ∷ [] → k ≡ reads_nothing → old ≡ replicate n reads_nothing → new ≡ replicate (n + 1) reads_nothing
+pushed_reader old new n k pushed is before = pushed ∙ ap (λ x. old ++ x ∷ []) is ∙ ap (λ (ks : List Reader). ks ++ reads_nothing ∷ []) before ∙ replicate-append-replicate n 1 reads_nothing
 
-pub set_cursors : {F : Type 0} (told : F → Option (List ℕ)) (cs : List (ComponentState F)) (cursors : List CursorState) (at : ℕ) (c : ComponentState F) (new : CursorState) → AreCursors told cs cursors → slice_get cs at ≡ Some c
-    → HoldsPart (told c.file) new → AreCursors told cs (set cursors at new)
-set_cursors {F} told cs cursors at c new are here holds = record {
-  many = length-set cursors at new ∙ are.many;
-  each = λ n d k one two. elim (get_set cursors at n new k two) [
+pub set_readers : {F : Type 0} (told : F → Option (List ℕ)) (cs : List (ComponentState F)) (readers : List Reader) (at : ℕ) (c : ComponentState F) (new : Reader) → AreReaders told cs readers → slice_get cs at ≡ Some c
+    → IsReaderOf told c new → AreReaders told cs (set readers at new)
+set_readers {F} told cs readers at c new are here holds = record {
+  many = length-set readers at new ∙ are.many;
+  each = λ n d k one two. elim (get_set readers at n new k two) [
     | inl same ↦
         let d_is : c ≡ d = same_Some c d (sym here ∙ ap (slice_get cs) (sym same.0) ∙ one) in
-        subst (λ (x : ComponentState F). HoldsPart (told x.file) k) d_is (subst (HoldsPart (told c.file)) same.1 holds)
+        subst (λ (x : ComponentState F). IsReaderOf told x k) d_is (subst (IsReaderOf told c) same.1 holds)
     | inr old ↦ are.each n d k one old.1
   ];
 }

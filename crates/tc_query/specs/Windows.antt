@@ -1,11 +1,12 @@
 -- How many reads the records of components take at most, where a read takes a window of them.
-use Rattle.std.specs.Prelude.{◌≡◌, ◌<◌, ◌≤◌, ◌+◌, ◌*◌, ◌/◌, ◌⊎◌, ℕ, List, length, take, slice_get, Option, Some, sum_by}
+use Rattle.std.specs.Prelude.{◌≡◌, ◌<◌, ◌≤◌, ◌+◌, ◌*◌, ◌/◌, ◌⊎◌, ℕ, List, length, take, slice_get, Some, sum_by}
 use Rattle.std.specs.List.{sum}
-use Rattle.tc_component.specs.Cursors.{CursorState, HoldsPart}
+use Rattle.tc_component.specs.Cursors.{CursorState}
 use Rattle.tc_component.specs.Layout.{records_place, window_size}
 use Rattle.tc_component.specs.Loading.{ComponentState}
 use Rattle.tc_component.specs.Spelling.{lengths_of}
 use Rattle.tc_component.specs.declared.slot.Slot.{Slot}
+use Rattle.tc_query.specs.declared.reader.Reader.{Reader}
 
 -- ---- how many there are
 
@@ -18,12 +19,7 @@ record_bytes cs = sum_by (λ c. lengths_of c.index.slots) cs
 abbrev pub most_windows : {F : Type 0} → List (ComponentState F) → ℕ
 most_windows cs = 2 * record_bytes cs / window_size + length cs
 
--- ---- the cursors of a query
-
--- each holds bytes of the file of its component, if that tells
-pub record AreCursors {F : Type 0} (told : F → Option (List ℕ)) (components : List (ComponentState F)) (cursors : List CursorState) : Type 0 where
-  pub many : length cursors ≡ length components
-  pub each : (n : ℕ) (c : ComponentState F) (k : CursorState) → slice_get components n ≡ Some c → slice_get cursors n ≡ Some k → HoldsPart (told c.file) k
+-- ---- the reads of a query
 
 -- So many reads were made of the records of entries that all have lesser keys. The last one began at a record, and read a
 -- window, or all up to the end.
@@ -41,8 +37,8 @@ abbrev pub IsRead : ℕ → List Slot → CursorState → ℕ → Type 0
 IsRead low slots cursor reads = (reads ≡ 0) ⊎ IsReadTo low slots cursor reads
 
 -- so of each component, with as many reads together as a count rose by
-pub record AreRead {F : Type 0} (low : ℕ) (components : List (ComponentState F)) (cursors : List CursorState) (first now : ℕ) : Type 0 where
+pub record AreRead {F : Type 0} (low : ℕ) (components : List (ComponentState F)) (readers : List Reader) (first now : ℕ) : Type 0 where
   pub reads : List ℕ
   pub many : length reads ≡ length components
-  pub each : (n r : ℕ) (c : ComponentState F) (k : CursorState) → slice_get components n ≡ Some c → slice_get cursors n ≡ Some k → slice_get reads n ≡ Some r → IsRead low c.index.slots k r
+  pub each : (n r : ℕ) (c : ComponentState F) (k : Reader) → slice_get components n ≡ Some c → slice_get readers n ≡ Some k → slice_get reads n ≡ Some r → IsRead low c.index.slots k.cursor r
   pub together : now ≤ first + sum reads

@@ -3,12 +3,14 @@
 
 mod ahead;
 mod fault;
+mod known;
 mod looking;
+mod reader;
 mod record;
 mod row;
 mod rows;
 mod walk;
 
 pub use fault::QueryFault;
-pub use row::{row_of_known, row_of_record};
+pub use row::row_of_known;
 pub use rows::rows_over;

@@ -19,21 +19,23 @@ ghost use Rattle.tc_request_model.specs.Rows.{row_of as row_reached};
 ghost use Rattle.tc_request_model.specs.Rendered.{row_text};
 ghost use Rattle.tc_plain_model.specs.Writes.{Pairs};
 ghost use Rattle.tc_query.specs.Faults.{OfDamage, IsHarmIn, IsReadIf, IsWatched};
+ghost use Rattle.tc_query.specs.Readers.{AreReaders};
 ghost use Rattle.tc_query.specs.Rows.{texts_with, texts_at};
 ghost use Rattle.tc_query.specs.Shown.{held_newest, IsListed, MayHave};
 ghost use Rattle.tc_query.specs.Stored.{Holds};
 ghost use Rattle.tc_query.specs.Walking.{StandAt};
-ghost use Rattle.tc_query.specs.Windows.{most_windows, AreCursors, AreRead};
+ghost use Rattle.tc_query.specs.Windows.{most_windows, AreRead};
 ghost use Rattle.tc_record.specs.Record.{IsRecordOf};
 ghost use Rattle.tc_record.specs.StoredRecord.{IsStoredRecord};
 
 use crate::ahead::found_at;
 use crate::fault::QueryFault;
+use crate::reader::Reader;
 use crate::record::row_stored;
 use crate::row::row_of_known;
 use std::alloc::{AllocError, Global};
 use tc_command::{Ask, Row};
-use tc_component::{Component, Found, RecordCursor};
+use tc_component::{Component, Found};
 use tc_list::{ComponentList, Whereabouts, loaded_components_show_contents};
 use tc_memory::{Held, Memtable, Sealed};
 use tc_names::Names;
@@ -46,7 +48,7 @@ pub(crate) fn row_at<F: Frozen>(
     alloc: Global,
     list: &ComponentList<F>,
     places: &[usize],
-    cursors: &mut [RecordCursor],
+    readers: &mut [Reader],
     sealed: Option<&Sealed>,
     active: &Memtable,
     key: u64,
@@ -54,21 +56,21 @@ pub(crate) fn row_at<F: Frozen>(
     watch: &mut F::Watch,
 ) -> Result<Option<Row>, QueryFault>
     requires stand { StandAt key list.now places.now }
-    requires of { AreCursors F.content list.now cursors.old }
+    requires of { AreReaders F.content list.now readers.old }
 
-    ensures of { AreCursors F.content list.now cursors.new }
+    ensures of { AreReaders F.content list.now readers.new }
     ensures row { (pairs : Pairs) → Holds F.content list.now (option_map (λ t. t.now) sealed.entry) active.now pairs → IfOk result (λ row. option_to_list (option_map row_of row) ≡ texts_at (ask_of ask.now) key pairs) }
     ensures shown { IfOk result (λ row. (document : Option Document) × MayHave (λ file. F.content file) (held_newest key (option_map (λ t. t.now) sealed.entry) active.now) list.now key document × (option_to_list (option_map row_of row) ≡ texts_with (ask_of ask.now) key document)) }
     ensures harmed { IfErr result (λ fault. OfDamage fault (λ file at bytes. IsHarmIn (λ file. F.content file) list.now file at bytes)) }
     ensures reads { IsReadIf (IsListed list.now (option_map (λ t. t.now) sealed.entry) active.now key) (F.Watch.counts watch.old) (F.Watch.counts watch.new) }
-    ensures read { IfOk result (λ row. (low first : ℕ) → low ≤ key → AreRead low list.now cursors.old first (F.Watch.counts watch.old).reads → AreRead (key + 1) list.now cursors.new first (F.Watch.counts watch.new).reads) }
-    ensures windows { (low first : ℕ) → low ≤ key → AreRead low list.now cursors.old first (F.Watch.counts watch.old).reads → (F.Watch.counts watch.new).reads ≤ first + most_windows list.now }
+    ensures read { IfOk result (λ row. (low first : ℕ) → low ≤ key → AreRead low list.now readers.old first (F.Watch.counts watch.old).reads → AreRead (key + 1) list.now readers.new first (F.Watch.counts watch.new).reads) }
+    ensures windows { (low first : ℕ) → low ≤ key → AreRead low list.now readers.old first (F.Watch.counts watch.old).reads → (F.Watch.counts watch.new).reads ≤ first + most_windows list.now }
     ensures watched { IsWatched (IsErrOf result QueryFault.Disk) (F.Watch.counts watch.old) (F.Watch.counts watch.new) }
 {
     match newest_held(sealed, active, key) {
         Some(Held::Live(bytes)) => Ok(row_held(alloc, bytes.as_slice(), key, ask)?),
         Some(Held::Gone) => Ok(None),
-        None => row_listed(alloc, list, places, cursors, key, ask, watch),
+        None => row_listed(alloc, list, places, readers, key, ask, watch),
     }
 }
 
@@ -107,21 +109,21 @@ fn row_listed<F: Frozen>(
     alloc: Global,
     list: &ComponentList<F>,
     places: &[usize],
-    cursors: &mut [RecordCursor],
+    readers: &mut [Reader],
     key: u64,
     ask: &Ask,
     watch: &mut F::Watch,
 ) -> Result<Option<Row>, QueryFault>
     requires stand { StandAt key list.now places.now }
-    requires of { AreCursors F.content list.now cursors.old }
+    requires of { AreReaders F.content list.now readers.old }
 
-    ensures of { AreCursors F.content list.now cursors.new }
+    ensures of { AreReaders F.content list.now readers.new }
     ensures row { (part : Partition) (cs : List Content) → IsList part cs → AllZip (IsLoadedOf F.content) list.now cs → IfOk result (λ row. option_to_list (option_map row_of row) ≡ texts_at (ask_of ask.now) key (live cs)) }
     ensures shown { IfOk result (λ row. (document : Option Document) × MayHave (λ file. F.content file) None list.now key document × (option_to_list (option_map row_of row) ≡ texts_with (ask_of ask.now) key document)) }
     ensures harmed { IfErr result (λ fault. OfDamage fault (λ file at bytes. IsHarmIn (λ file. F.content file) list.now file at bytes)) }
     ensures reads { IsReadIf ((at : ℕ) × (place : OnePlace) × IsWhere list.now key (listed_at at place)) (F.Watch.counts watch.old) (F.Watch.counts watch.new) }
-    ensures read { IfOk result (λ row. (low first : ℕ) → low ≤ key → AreRead low list.now cursors.old first (F.Watch.counts watch.old).reads → AreRead (key + 1) list.now cursors.new first (F.Watch.counts watch.new).reads) }
-    ensures windows { (low first : ℕ) → low ≤ key → AreRead low list.now cursors.old first (F.Watch.counts watch.old).reads → (F.Watch.counts watch.new).reads ≤ first + most_windows list.now }
+    ensures read { IfOk result (λ row. (low first : ℕ) → low ≤ key → AreRead low list.now readers.old first (F.Watch.counts watch.old).reads → AreRead (key + 1) list.now readers.new first (F.Watch.counts watch.new).reads) }
+    ensures windows { (low first : ℕ) → low ≤ key → AreRead low list.now readers.old first (F.Watch.counts watch.old).reads → (F.Watch.counts watch.new).reads ≤ first + most_windows list.now }
     ensures watched { IsWatched (IsErrOf result QueryFault.Disk) (F.Watch.counts watch.old) (F.Watch.counts watch.new) }
 {
     loaded_components_show_contents::<F>();
@@ -132,7 +134,7 @@ fn row_listed<F: Frozen>(
             place,
         } => {
             let component = component_at(list, at);
-            row_stored(alloc, component, &mut cursors[at], place, key, ask, watch)
+            row_stored(alloc, component, &mut readers[at], place, key, ask, watch)
         }
     }
 }

@@ -1,6 +1,6 @@
 //! The row of one record.
 
-ghost use Rattle.std.specs.Prelude.{◌≡◌, List, Some, None, IfOk, IsErrOf, map, option_map, option_to_list};
+ghost use Rattle.std.specs.Prelude.{◌≡◌, List, Some, None, IfOk, map, option_map, option_to_list};
 ghost use Rattle.tc_model.specs.Document.{Document};
 ghost use Rattle.tc_value.specs.Meaning.{tree_of};
 ghost use Rattle.tc_compact.specs.Meant.{IsRecordUnder};
@@ -14,35 +14,14 @@ ghost use Rattle.tc_command.specs.Rows.{row_of};
 use std::alloc::{AllocError, Global};
 use tc_bytes::Bytes;
 use tc_command::{Ask, PathExpr, Row};
-use tc_compact::spells_document;
 use tc_names::Names;
 use tc_path::{ValueRef, select};
-use tc_record::{RecordFault, RecordRef};
+use tc_record::RecordRef;
 use tc_record_text::put_row;
 use tc_value::Doc;
 
-/// The row that an ask gets of a key's document, by a record of any form whose numbers mean names of the dictionary;
-/// `None` where the document gives none. `NotARecord` comes exactly where the record spells no document under the
-/// dictionary.
-pub fn row_of_record(
-    alloc: Global,
-    key: u64,
-    of: RecordRef<'_>,
-    names: &Names,
-    ask: &Ask,
-) -> Result<Option<Row>, RecordFault>
-    ensures row { (d : Document) → IsRecordUnder names.now d of.entry.bytes → IfOk result (λ row. option_to_list (option_map row_of row) ≡ map row_text (row_reached (ask_of ask.now).equal_to key (reached (ask_of ask.now).path d))) }
-    ensures document { IfOk result (λ row. (d : Document) × IsRecordUnder names.now d of.entry.bytes) }
-    ensures refused { IsErrOf result RecordFault.NotARecord → (d : Document) → IsRecordUnder names.now d of.entry.bytes → ⊥ }
-{
-    if !spells_document(of.again(), names) {
-        return Err(RecordFault::NotARecord);
-    }
-    Ok(row_of_known(alloc, key, of, names, ask)?)
-}
-
-/// The row that an ask gets of a key's document, by a record that is known to spell one under the dictionary; `None`
-/// where the document gives none. Errs only for want of memory.
+/// The row that an ask gets of a key's document, by a record of any form that is known to spell it where numbers mean names of
+/// the dictionary; `None` where the document gives none. Errs only for want of memory.
 pub fn row_of_known(
     alloc: Global,
     key: u64,

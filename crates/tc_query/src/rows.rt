@@ -4,23 +4,24 @@ ghost use Rattle.std.specs.Prelude.{◌≡◌, ◌≤◌, ◌+◌, ◌++◌, Lis
 ghost use Rattle.std.specs.List.{AllZip};
 ghost use Rattle.tc_command.specs.Commands.{ask_of};
 ghost use Rattle.tc_command.specs.Rows.{row_of};
-ghost use Rattle.tc_component.specs.Cursors.{holds_nothing};
 ghost use Rattle.tc_component.specs.Loaded.{IsLoadedOf};
 ghost use Rattle.tc_lsm_model.specs.Contents.{Content};
 ghost use Rattle.tc_request_model.specs.Rows.{rows_over as rows_of_pairs};
 ghost use Rattle.tc_request_model.specs.Rendered.{row_text};
 ghost use Rattle.tc_plain_model.specs.Writes.{Pairs};
 ghost use Rattle.tc_query.specs.Faults.{OfDamage, IsUnharmed, IsHarmIn, IsWatched};
+ghost use Rattle.tc_query.specs.Readers.{reads_nothing};
 ghost use Rattle.tc_query.specs.Shown.{MayHold, live_keys};
 ghost use Rattle.tc_query.specs.Stored.{Holds};
 ghost use Rattle.tc_query.specs.Windows.{most_windows};
 
 use crate::fault::QueryFault;
 use crate::looking::row_at;
+use crate::reader::Reader;
 use crate::walk::{next_key, walk_of};
 use std::alloc::{AllocError, Global};
 use tc_command::{Ask, Row, Rows};
-use tc_component::{RecordCursor, components_are_contents};
+use tc_component::components_are_contents;
 use tc_list::{ComponentList, loaded_components_show_contents};
 use tc_memory::{Memtable, Sealed};
 use tc_store::Frozen;
@@ -51,7 +52,7 @@ pub fn rows_over<F: Frozen>(
     components_are_contents();
     loaded_components_show_contents::<F>();
     let mut walk = walk_of(alloc, list, sealed, active)?;
-    let mut cursors = cursors_of(alloc, list.len())?;
+    let mut readers = readers_of(alloc, list.len())?;
     let mut rows = Vec::new(alloc);
     let mut last = None;
     while let Some(key) = next_key(&mut walk, list, last) {
@@ -59,7 +60,7 @@ pub fn rows_over<F: Frozen>(
             alloc,
             list,
             &walk.places,
-            &mut cursors,
+            &mut readers,
             sealed,
             active,
             key,
@@ -72,15 +73,15 @@ pub fn rows_over<F: Frozen>(
     Ok(Rows::of(rows))
 }
 
-/// So many cursors that hold no byte.
-fn cursors_of(alloc: Global, count: usize) -> Result<Vec<RecordCursor>, AllocError>
-    ensures { IfOk result (λ cursors. cursors.items ≡ replicate count holds_nothing) }
+/// So many readers that hold no byte.
+fn readers_of(alloc: Global, count: usize) -> Result<Vec<Reader>, AllocError>
+    ensures { IfOk result (λ readers. readers.items ≡ replicate count reads_nothing) }
 {
-    let mut cursors = Vec::with_capacity(alloc, count)?;
+    let mut readers = Vec::with_capacity(alloc, count)?;
     for _ in 0..count {
-        cursors.push(RecordCursor::new(alloc))?;
+        readers.push(Reader::new(alloc))?;
     }
-    Ok(cursors)
+    Ok(readers)
 }
 
 /// Adds a row behind the others, if there is one. Errs only for want of memory.

@@ -20,19 +20,19 @@ returns-in_ok-row_held-in-Some-Live-clause-row g c = λ pairs h.
     ∙ ap (map row_text) (rows_of_one (ask_of c.args.ask.now) c.args.key pairs at.document at.stored)
 
 pub returns-in_err-row_held-in-Some-Live-clause-windows : goal.returns-in_err-row_held-in-Some-Live-clause-windows
-returns-in_err-row_held-in-Some-Live-clause-windows g c = λ low first order a. reads_few low c.args.list.now c.args.cursors.now first (g.F.Watch.Watch.counts c.args.watch.now).reads c.requires.of.many a
+returns-in_err-row_held-in-Some-Live-clause-windows g c = λ low first order a. reads_few low c.args.list.now c.args.readers.now first (g.F.Watch.Watch.counts c.args.watch.now).reads c.requires.of.many a
 
 pub returns-in_ok-row_held-in-Some-Live-clause-read : goal.returns-in_ok-row_held-in-Some-Live-clause-read
-returns-in_ok-row_held-in-Some-Live-clause-read g c = λ low first order a. later_reads low (c.args.key + 1) c.args.list.now c.args.cursors.now first (g.F.Watch.Watch.counts c.args.watch.now).reads (omega (arith, order)) a
+returns-in_ok-row_held-in-Some-Live-clause-read g c = λ low first order a. later_reads low (c.args.key + 1) c.args.list.now c.args.readers.now first (g.F.Watch.Watch.counts c.args.watch.now).reads (omega (arith, order)) a
 
 pub returns-in_ok-row_held-in-Some-Live-clause-windows : goal.returns-in_ok-row_held-in-Some-Live-clause-windows
-returns-in_ok-row_held-in-Some-Live-clause-windows g c = λ low first order a. reads_few low c.args.list.now c.args.cursors.now first (g.F.Watch.Watch.counts c.args.watch.now).reads c.requires.of.many a
+returns-in_ok-row_held-in-Some-Live-clause-windows g c = λ low first order a. reads_few low c.args.list.now c.args.readers.now first (g.F.Watch.Watch.counts c.args.watch.now).reads c.requires.of.many a
 
 pub returns-in-Some-Gone-clause-read : goal.returns-in-Some-Gone-clause-read
-returns-in-Some-Gone-clause-read g c = λ low first order a. later_reads low (c.args.key + 1) c.args.list.now c.args.cursors.now first (g.F.Watch.Watch.counts c.args.watch.now).reads (omega (arith, order)) a
+returns-in-Some-Gone-clause-read g c = λ low first order a. later_reads low (c.args.key + 1) c.args.list.now c.args.readers.now first (g.F.Watch.Watch.counts c.args.watch.now).reads (omega (arith, order)) a
 
 pub returns-in-Some-Gone-clause-windows : goal.returns-in-Some-Gone-clause-windows
-returns-in-Some-Gone-clause-windows g c = λ low first order a. reads_few low c.args.list.now c.args.cursors.now first (g.F.Watch.Watch.counts c.args.watch.now).reads c.requires.of.many a
+returns-in-Some-Gone-clause-windows g c = λ low first order a. reads_few low c.args.list.now c.args.readers.now first (g.F.Watch.Watch.counts c.args.watch.now).reads c.requires.of.many a
 
 pub returns-in-Some-Gone-clause-row : goal.returns-in-Some-Gone-clause-row
 returns-in-Some-Gone-clause-row g c = λ pairs h.

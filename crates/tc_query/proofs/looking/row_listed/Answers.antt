@@ -9,7 +9,7 @@ use Rattle.tc_request_model.specs.Rendered.{row_text}
 use Rattle.tc_query.proofs.ListedRows.{place_there, found_there, listed_row}
 use Rattle.tc_query.proofs.RowSteps.{rows_with_one, rows_of_none}
 use Rattle.tc_query.proofs.Spelled.{of_damage_then}
-use Rattle.tc_query.proofs.WindowReads.{later_reads, reads_few, set_cursors, record_read, record_few}
+use Rattle.tc_query.proofs.WindowReads.{later_reads, reads_few, set_readers, record_read, record_few}
 use Rattle.tc_query.proofs.looking.row_listed.Goals as goal
 
 pub row_stored-requires-clause-place : goal.row_stored-requires-clause-place
@@ -22,14 +22,14 @@ returns-in-Absent-clause-row g c = λ part cs is all.
     (where_live part c.args.list.now cs c.args.key Absent is (c.loaded_components_show_contents.ensures.shown c.args.list.now cs all) c.in-Absent.ensures))
 
 pub returns-in-Absent-clause-read : goal.returns-in-Absent-clause-read
-returns-in-Absent-clause-read g c = λ low first order a. later_reads low (c.args.key + 1) c.args.list.now c.args.cursors.now first (g.F.Watch.Watch.counts c.args.watch.now).reads (omega (arith, order)) a
+returns-in-Absent-clause-read g c = λ low first order a. later_reads low (c.args.key + 1) c.args.list.now c.args.readers.now first (g.F.Watch.Watch.counts c.args.watch.now).reads (omega (arith, order)) a
 
 pub returns-in-Absent-clause-windows : goal.returns-in-Absent-clause-windows
-returns-in-Absent-clause-windows g c = λ low first order a. reads_few low c.args.list.now c.args.cursors.now first (g.F.Watch.Watch.counts c.args.watch.now).reads c.requires.of.many a
+returns-in-Absent-clause-windows g c = λ low first order a. reads_few low c.args.list.now c.args.readers.now first (g.F.Watch.Watch.counts c.args.watch.now).reads c.requires.of.many a
 
 pub returns-in-At-clause-of : goal.returns-in-At-clause-of
 returns-in-At-clause-of g c =
-    set_cursors g.F.Frozen.content c.args.list.now c.args.cursors.now c.in-At.at c.component_at-component.result.now c.row_stored.new.cursor c.requires.of c.component_at-component.ensures.there c.row_stored.ensures.of
+    set_readers g.F.Frozen.content c.args.list.now c.args.readers.now c.in-At.at c.component_at-component.result.now c.row_stored.new.reader c.requires.of c.component_at-component.ensures.there c.row_stored.ensures.of
 
 pub returns-in-At-clause-row : goal.returns-in-At-clause-row
 returns-in-At-clause-row g c = λ part cs is all.
@@ -47,31 +47,31 @@ returns-in-At-clause-harmed g c =
 pub returns-in-At-clause-read : goal.returns-in-At-clause-read
 returns-in-At-clause-read g c =
     let cs = c.args.list.now in
-    let cursors = c.args.cursors.now in
+    let readers = c.args.readers.now in
     let counts = g.F.Watch.Watch.counts in
     let at = c.in-At.at in
     let m = c.component_at-component.result.now in
     let here = c.component_at-component.ensures.there in
-    let within : at < length cursors = subst (λ n. at < n) (sym c.requires.of.many) (slice_get_within cs at m here) in
-    let there = slice_get-get_or cursors at c.index-cursors-at.result within in
+    let within : at < length readers = subst (λ n. at < n) (sym c.requires.of.many) (slice_get_within cs at m here) in
+    let there = slice_get-get_or readers at c.index-readers-at.result within in
     let told = c.row_stored.ensures in
     IfOk-weaker c.row_stored.result _ _
-    (λ row begins low first order a. record_read cs cursors c.args.key at m c.in-At.place (get_or cursors at c.index-cursors-at.result) c.row_stored.new.cursor (counts c.args.watch.now) (counts c.row_stored.new.watch) c.component_at-component.ensures.lawful.ascend
+    (λ row begins low first order a. record_read cs readers c.args.key at m c.in-At.place (get_or readers at c.index-readers-at.result) c.row_stored.new.reader (counts c.args.watch.now) (counts c.row_stored.new.watch) c.component_at-component.ensures.lawful.ascend
     (found_there cs c.args.key at m c.in-At.place here c.in-At.ensures) here there told.held told.once begins low first order a)
     told.window
 
 pub returns-in-At-clause-windows : goal.returns-in-At-clause-windows
 returns-in-At-clause-windows g c =
     let cs = c.args.list.now in
-    let cursors = c.args.cursors.now in
+    let readers = c.args.readers.now in
     let counts = g.F.Watch.Watch.counts in
     let at = c.in-At.at in
     let m = c.component_at-component.result.now in
     let here = c.component_at-component.ensures.there in
-    let within : at < length cursors = subst (λ n. at < n) (sym c.requires.of.many) (slice_get_within cs at m here) in
-    let there = slice_get-get_or cursors at c.index-cursors-at.result within in
+    let within : at < length readers = subst (λ n. at < n) (sym c.requires.of.many) (slice_get_within cs at m here) in
+    let there = slice_get-get_or readers at c.index-readers-at.result within in
     let told = c.row_stored.ensures in
-    λ low first order a. record_few cs cursors c.args.key at m c.in-At.place (get_or cursors at c.index-cursors-at.result) c.row_stored.new.cursor (counts c.args.watch.now) (counts c.row_stored.new.watch) c.component_at-component.ensures.lawful.ascend
+    λ low first order a. record_few cs readers c.args.key at m c.in-At.place (get_or readers at c.index-readers-at.result) c.row_stored.new.reader (counts c.args.watch.now) (counts c.row_stored.new.watch) c.component_at-component.ensures.lawful.ascend
     (found_there cs c.args.key at m c.in-At.place here c.in-At.ensures) here there told.held told.once c.requires.of.many low first order a
 
 pub returns-in-Absent-clause-shown : goal.returns-in-Absent-clause-shown

@@ -1,68 +1,81 @@
-use Rattle.std.proofs.Common.{◌≡◌, ◌∙◌, Err, length, map, inr, refl, sym, ap, subst}
-use Rattle.std.specs.Prelude.{IfErr, IfSome}
+use Rattle.std.proofs.Common.{◌≡◌, ◌∙◌, length, sym, ap, subst}
+use Rattle.std.specs.Prelude.{IfSome}
 use Rattle.std.proofs.lemmas.Option.{IfSome_then}
-use Rattle.tc_command.specs.Commands.{ask_of}
+use Rattle.std.proofs.lemmas.Result.{IfOk-weaker, IfErr-weaker}
 use Rattle.tc_compact.specs.Meant.{IsRecordUnder}
+use Rattle.tc_component.specs.Cursors.{HasBytes, IsWindow, part_held}
 use Rattle.tc_component.specs.Fetching.{record_at, IsRecordWithin}
+use Rattle.tc_component.specs.Layout.{directory_place}
 use Rattle.tc_component.specs.Meaning.{IsRecordOfOne}
-use Rattle.tc_request_model.specs.Paths.{reached}
-use Rattle.tc_request_model.specs.Rows.{row_of}
-use Rattle.tc_request_model.specs.Rendered.{row_text}
-use Rattle.tc_query.proofs.Spelled.{means_one}
-use Rattle.tc_query.specs.declared.fault.QueryFault.TheVariants.{Disk}
+use Rattle.tc_component.specs.Spelling.{name_of, sizes_in}
+use Rattle.tc_component.proofs.Windows.{at_range, part_is}
+use Rattle.tc_model.specs.Document.{Document}
+use Rattle.tc_query.specs.Faults.{OfDamage}
+use Rattle.tc_query.proofs.Harms.{part_long, stands_there, judged_harm, spelled_harm}
 use Rattle.tc_query.proofs.record.row_stored.Goals as goal
 
-pub known-requires : goal.known-requires
-known-requires g c =
+pub row_found-requires-clause-found : goal.row_found-requires-clause-found
+row_found-requires-clause-found g c κs within =
     let index = c.args.component.now.index in
-    let found : IsRecordWithin index.version (length index.names) c.record-bytes.result.now = subst (IsRecordWithin index.version (length index.names)) (sym c.record-bytes.ensures.same) c.in_ok-hold.ensures.found in
-    inr (found.tree, (index.version, (found.told, found.is_record)))
-
-pub no_document-requires-clause-read : goal.no_document-requires-clause-read
-no_document-requires-clause-read g c κs within =
-    let component = c.args.component.now in
-    subst (λ b. IfSome (g.F.Frozen.content component.file) (λ whole. b ≡ record_at component.index.slots c.args.place.at whole)) (sym c.record-bytes.ensures.same) c.in_ok-hold.ensures.read
-
-pub no_document-requires-clause-cause : goal.no_document-requires-clause-cause
-no_document-requires-clause-cause g c κs within = λ is d under.
-    c.in-Err.ensures.refused (ap Err is) d (subst (λ names. IsRecordUnder names d c.known.result.bytes) (sym c.names.ensures) (subst (IsRecordUnder c.args.component.now.index.names d) (sym c.known.ensures.bytes) under))
-
-pub returns-in-Ok-clause-watched : goal.returns-in-Ok-clause-watched
-returns-in-Ok-clause-watched g c = record { faults = c.hold.ensures.watched.faults; cause = λ e. absurd (cc) }
-
-pub returns-in-Err-clause-watched : goal.returns-in-Err-clause-watched
-returns-in-Err-clause-watched g c = record { faults = c.hold.ensures.watched.faults; cause = λ failed. absurd (subst (λ r. IfErr r (λ fault. fault ≡ Disk → ⊥)) failed c.no_document.ensures.cause refl) }
+    subst (IsRecordWithin index.version (length index.names)) (sym c.in-Ok.ensures.same.0) c.in-Ok.ensures.found
 
 pub returns-in-Ok-clause-row : goal.returns-in-Ok-clause-row
-returns-in-Ok-clause-row g c = λ d.
-    let component = c.args.component.now in
-    let ask = ask_of c.args.ask.now in
-    let bytes = c.record-bytes.result.now in
-    let found = c.in-Ok.ensures.document in
-    let e = found.0 in
-    let within = c.in_ok-hold.ensures.found in
-    let under = subst (IsRecordUnder component.index.names e) c.known.ensures.bytes (subst (λ names. IsRecordUnder names e c.known.result.bytes) c.names.ensures found.1) in
-    IfSome_then (g.F.Frozen.content component.file) c.in_ok-hold.ensures.read
-    (λ whole read one.
-    c.in-Ok.ensures.row e found.1
-    ∙ ap (λ x. map row_text (row_of ask.equal_to c.args.key (reached ask.path x)))
-    (means_one component.index.version component.index.names bytes c.known.result.named d e (λ x is. (c.known.ensures.document x is).0) (λ n is. (c.known.ensures.numbered component.index.version n within.told is).1) under
-    (subst (IsRecordOfOne component.index.version component.index.names d) (sym (c.record-bytes.ensures.same ∙ read)) one)))
+returns-in-Ok-clause-row g c =
+    let m = c.args.component.now in
+    let range = c.record_range-begin in
+    let cursor = c.hold.new.cursor in
+    let read = part_is (g.F.Frozen.content m.file) cursor range.result.0 range.result.1 c.hold.ensures.of c.in_ok-hold.ensures.has in
+    let stands = stands_there g.F.Frozen.content m c.args.place range.result.0 range.result.1 c.requires.place range.ensures.begin range.ensures.length (part_held range.result.0 range.result.1 cursor) read in
+    IfOk-weaker c.row_found.result _ _
+    (λ row each d. IfSome_then (g.F.Frozen.content m.file) stands (λ whole same one. each d (subst (IsRecordOfOne m.index.version m.index.names d) (sym (c.in-Ok.ensures.same.0 ∙ same)) one)))
+    c.row_found.ensures.row
 
 pub returns-in-Ok-clause-document : goal.returns-in-Ok-clause-document
 returns-in-Ok-clause-document g c =
-    let component = c.args.component.now in
-    let slots = component.index.slots in
-    let at = c.args.place.at in
-    let bytes = c.record-bytes.result.now in
-    let found = c.in-Ok.ensures.document in
-    let e = found.0 in (
-      e,
+    let m = c.args.component.now in
+    let range = c.record_range-begin in
+    let cursor = c.hold.new.cursor in
+    let same = c.in-Ok.ensures.same.0 in
+    let read = part_is (g.F.Frozen.content m.file) cursor range.result.0 range.result.1 c.hold.ensures.of c.in_ok-hold.ensures.has in
+    let stands = stands_there g.F.Frozen.content m c.args.place range.result.0 range.result.1 c.requires.place range.ensures.begin range.ensures.length (part_held range.result.0 range.result.1 cursor) read in
+    IfOk-weaker c.row_found.result _ _
+    (λ row found. (
+      found.0,
       record {
-        bytes = bytes;
-        long = c.record-bytes.ensures.length;
-        spells = subst (IsRecordUnder component.index.names e) c.known.ensures.bytes (subst (λ names. IsRecordUnder names e c.known.result.bytes) c.names.ensures found.1);
-        stands = subst (λ b. IfSome (g.F.Frozen.content component.file) (λ whole. b ≡ record_at slots at whole)) (sym c.record-bytes.ensures.same) c.in_ok-hold.ensures.read;
+        bytes = c.in-Ok.found.bytes;
+        long = ap length same ∙ part_long cursor range.result.0 range.result.1 c.in_ok-hold.ensures.has ∙ range.ensures.length;
+        spells = found.1;
+        stands = subst (λ bs. IfSome (g.F.Frozen.content m.file) (λ whole. bs ≡ record_at m.index.slots c.args.place.at whole)) (sym same) stands;
       },
-      c.in-Ok.ensures.row e found.1,
-    )
+      found.2,
+    ))
+    c.row_found.ensures.document
+
+pub returns-in-Ok-clause-harmed : goal.returns-in-Ok-clause-harmed
+returns-in-Ok-clause-harmed g c =
+    let m = c.args.component.now in
+    let range = c.record_range-begin in
+    let cursor = c.hold.new.cursor in
+    let same = c.in-Ok.ensures.same.0 in
+    let read = part_is (g.F.Frozen.content m.file) cursor range.result.0 range.result.1 c.hold.ensures.of c.in_ok-hold.ensures.has in
+    let long = part_long cursor range.result.0 range.result.1 c.in_ok-hold.ensures.has in
+    IfErr-weaker c.row_found.result _ _
+    (λ fault is. spelled_harm g.F.Frozen.content m c.args.place range.result.0 range.result.1 c.requires.place range.ensures.begin range.ensures.length (part_held range.result.0 range.result.1 cursor) read fault long
+    (subst (λ bs. OfDamage fault (λ file at bytes. (file ≡ name_of m.index.head) × (at ≡ range.result.0) × (bytes ≡ bs) × ((d : Document) → IsRecordUnder m.index.names d bytes → ⊥))) same is))
+    c.row_found.ensures.harmed
+
+pub returns-in-Ok-clause-window : goal.returns-in-Ok-clause-window
+returns-in-Ok-clause-window g c =
+    let m = c.args.component.now in
+    let range = c.record_range-begin in
+    let begins = at_range (λ p n. (HasBytes p n c.args.reader.now.cursor → ⊥) → IsWindow p n (directory_place (sizes_in m.index)) c.hold.new.cursor) _ _ _ _ range.ensures.begin range.ensures.length c.in_ok-hold.ensures.window in
+    IfOk-weaker c.row_found.result _ _ (λ row is apart. begins apart) c.row_found.ensures.document
+
+pub returns-in-Err-clause-harmed : goal.returns-in-Err-clause-harmed
+returns-in-Err-clause-harmed g c =
+    let m = c.args.component.now in
+    let range = c.record_range-begin in
+    let cursor = c.hold.new.cursor in
+    let read = part_is (g.F.Frozen.content m.file) cursor range.result.0 range.result.1 c.hold.ensures.of c.in_ok-hold.ensures.has in
+    judged_harm g.F.Frozen.content m c.args.place range.result.0 range.result.1 c.requires.place range.ensures.begin range.ensures.length (part_held range.result.0 range.result.1 cursor) read c.in-Err.fault c.of_read.result c.file_name.result
+    c.file_name.ensures c.in-Err.ensures.damaged c.of_read.ensures.harmed

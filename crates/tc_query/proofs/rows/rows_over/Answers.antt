@@ -4,16 +4,17 @@ use Rattle.std.specs.Prelude.{IfErr, option_to_list}
 use Rattle.tc_command.specs.Commands.{ask_of}
 use Rattle.tc_command.specs.Rows.{row_of}
 use Rattle.tc_request_model.specs.Rendered.{row_text}
-use Rattle.tc_component.specs.Cursors.{CursorState}
 use Rattle.tc_query.proofs.HeldBelow.{HoldBelow, below_none, below_next, below_all}
 use Rattle.tc_query.proofs.KeyRows.{reads_more, reads_within, reads_ended, rows_more, rows_whole}
 use Rattle.tc_query.proofs.RowSteps.{rows-start}
 use Rattle.tc_query.proofs.Spelled.{unharmed}
 use Rattle.tc_query.proofs.WalkSteps.{later_walk, written_back}
-use Rattle.tc_query.proofs.WindowReads.{start_cursors, start_read, reads_few}
+use Rattle.tc_query.proofs.WindowReads.{start_readers, start_read, reads_few}
 use Rattle.tc_query.specs.Faults.{IsUnharmed}
 use Rattle.tc_query.specs.Walking.{least_left, IsNext, HasNoneIn}
-use Rattle.tc_query.specs.Windows.{AreRead, AreCursors}
+use Rattle.tc_query.specs.Readers.{AreReaders}
+use Rattle.tc_query.specs.Windows.{AreRead}
+use Rattle.tc_query.specs.declared.reader.Reader.{Reader}
 use Rattle.tc_query.proofs.rows.rows_over.Goals as goal
 
 pub loop-key-init : goal.loop-key-init
@@ -24,7 +25,7 @@ loop-key-init g c = record {
       (sym (ap (map row_of) c.new-rows.ensures.items)) (below_none g.F.Frozen.content c.args.list.now (option_map (λ t. t.now) c.args.sealed) c.args.active.now
       (ask_of c.args.ask.now));
   reads = omega arith;
-  cursors = start_cursors g.F.Frozen.content c.args.list.now _ _ c.in_ok-cursors.ensures c.len.ensures;
+  readers = start_readers g.F.Frozen.content c.args.list.now _ _ c.in_ok-readers.ensures c.len.ensures;
   read = start_read c.args.list.now _ _;
   faults = omega arith;
 }
@@ -80,7 +81,7 @@ pub returns-clause-windows : goal.returns-clause-windows
 returns-clause-windows g c =
     let l = c.loop-key in
     let counts = g.F.Watch.Watch.counts in
-    reads_few (least_left l.last) c.args.list.now l.cursors.items (counts c.args.watch.now).reads (counts l.watch).reads l.invariant.cursors.many l.invariant.read
+    reads_few (least_left l.last) c.args.list.now l.readers.items (counts c.args.watch.now).reads (counts l.watch).reads l.invariant.readers.many l.invariant.read
 
 pub loop-key-preserved : goal.loop-key-preserved
 loop-key-preserved g c =
@@ -93,7 +94,7 @@ loop-key-preserved g c =
     let low = least_left l.last in
     let key = c.in-Some.key in
     let next = c.in-Some.ensures.next sealed active tables.sealed tables.active l.invariant.walk in
-    let written = written_back c.row_at.new.cursors l.cursors.items _ (c.row_at.ensures.of.many ∙ sym l.invariant.cursors.many) (sym c.deref_mut.ensures.len ∙ ap (λ (ks : List CursorState). length ks) c.deref_mut.ensures.value) in
+    let written = written_back c.row_at.new.readers l.readers.items _ (c.row_at.ensures.of.many ∙ sym l.invariant.readers.many) (sym c.deref_mut.ensures.len ∙ ap (λ (ks : List Reader). length ks) c.deref_mut.ensures.value) in
     record {
       walk = let least = next.0 in later_walk low (key + 1) cs sealed active c.next_key.new.walk (omega (arith, least)) (c.in-Some.ensures.walk sealed active l.invariant.walk);
       rows = λ pairs h.
@@ -102,7 +103,7 @@ loop-key-preserved g c =
       held = let may = c.in_ok-row.ensures.shown in below_next g.F.Frozen.content cs sealed active (ask_of c.args.ask.now) low key (map row_of l.rows.items) may.0
           (option_to_list (option_map row_of c.in_ok-row.row)) (map row_of c.push_row.new.rows.items) next l.invariant.held may.1 may.2 c.in_ok-push_row.ensures;
       reads = reads_more g.F.Frozen.content cs sealed active low key (counts c.args.watch.now).reads (counts l.watch) (counts c.row_at.new.watch) c.next_key.ensures.lawful next c.row_at.ensures.reads l.invariant.reads;
-      cursors = subst (λ ks. AreCursors g.F.Frozen.content cs ks) (sym written) c.row_at.ensures.of;
+      readers = subst (λ ks. AreReaders g.F.Frozen.content cs ks) (sym written) c.row_at.ensures.of;
       read = subst (λ ks. AreRead (key + 1) cs ks (counts c.args.watch.now).reads (counts c.row_at.new.watch).reads) (sym written)
           (c.in_ok-row.ensures.read low (counts c.args.watch.now).reads next.0 (subst (λ ks. AreRead low cs ks (counts c.args.watch.now).reads (counts l.watch).reads) (sym c.deref_mut.ensures.value) l.invariant.read));
       faults = let before = l.invariant.faults in let more = c.row_at.ensures.watched.faults in omega (arith, before, more);

@@ -10,7 +10,8 @@ use Rattle.tc_query.specs.Rows.{below}
 use Rattle.tc_query.specs.Shown.{shown}
 use Rattle.tc_query.specs.Stored.{Holds}
 use Rattle.tc_query.specs.Walking.{least_left, IsWalk}
-use Rattle.tc_query.specs.Windows.{AreCursors, AreRead}
+use Rattle.tc_query.specs.Readers.{AreReaders}
+use Rattle.tc_query.specs.Windows.{AreRead}
 use Rattle.tc_query.proofs.rows.rows_over.Given as goal
 
 -- all keys up to the last one are done
@@ -24,8 +25,8 @@ invariant-loop-key g l =
       rows : (pairs : Pairs) → Holds (λ file. g.F.Frozen.content file) l.list sealed l.active pairs → map row_of l.rows.items ≡ map row_text (rows_over (ask_of l.ask) (below low pairs));
       held : HoldBelow (λ file. g.F.Frozen.content file) low l.list sealed l.active (ask_of l.ask) (map row_of l.rows.items);
       reads : (counts l.watch).reads ≤ (counts l.fn.watch).reads + length (below low (shown l.list sealed l.active));
-      cursors : AreCursors (λ file. g.F.Frozen.content file) l.list l.cursors.items;
-      read : AreRead low l.list l.cursors.items (counts l.fn.watch).reads (counts l.watch).reads;
+      readers : AreReaders (λ file. g.F.Frozen.content file) l.list l.readers.items;
+      read : AreRead low l.list l.readers.items (counts l.fn.watch).reads (counts l.watch).reads;
       faults : (counts l.fn.watch).faults ≤ (counts l.watch).faults;
     }
 
