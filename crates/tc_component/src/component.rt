@@ -1,9 +1,9 @@
 //! The component that is searched.
 
-ghost use Rattle.std.specs.Prelude.{◌≡◌, ◌<◌, ◌≤◌, ◌+◌, ◌-◌, ℕ, List, Err, Some, slice_get, length, min, take, IfOk, IfSome, IsErrOf, OnOk};
+ghost use Rattle.std.specs.Prelude.{◌≡◌, ◌<◌, ◌≤◌, ◌+◌, ◌-◌, ℕ, List, Err, Some, slice_get, length, min, take, IfOk, IfSome, IsErrOf};
 ghost use Rattle.std.specs.Result.{IsOk};
 ghost use Rattle.tc_store.specs.Counted.{IsCountedOnce};
-ghost use Rattle.tc_store.specs.Judging.{Judges, IfDamaged, IsNoDamage, IsNoDisk, damage as a_damage};
+ghost use Rattle.tc_store.specs.Judging.{Judges, IfDamaged, damage as a_damage};
 ghost use Rattle.tc_component.specs.declared.slot.Slot.{Slot as OneSlot};
 ghost use Rattle.tc_component.specs.Columns.{IsFound, IsEntry};
 ghost use Rattle.tc_component.specs.Fetching.{IsPlace, record_place, length_at, record_at, IsRecordWithin};
@@ -13,7 +13,7 @@ ghost use Rattle.tc_component.specs.Reading.{head_judged, file_judged};
 ghost use Rattle.tc_component.specs.Spans.{AreSpans};
 ghost use Rattle.tc_component.specs.Spelling.{sizes_in, name_of, IsHead, IsIndex};
 
-use crate::fetching::{judge, record_of};
+use crate::fetching::record_of;
 use crate::found::{DirEntry, Found, Place, Span};
 use crate::head::Head;
 use crate::layout::{RECORDS_PLACE, SLOT_LEN};
@@ -24,7 +24,6 @@ use std::alloc::Global;
 use std::marker::Model;
 use tc_bytes::Bytes;
 use tc_names::Names;
-use tc_record::RecordRef;
 use tc_schema::Schema;
 use tc_store::{FileName, Frozen, ReadFault, bytes_of};
 
@@ -149,54 +148,14 @@ impl<F: Frozen> Component<F> {
 
         ensures counted { IsCountedOnce (IsErrOf result ReadFault.Disk) (IsErrOf result ReadFault.Memory → ⊥) (F.Watch.counts watch.old) (F.Watch.counts watch.new) }
     {
-        let bytes = self.read_record(alloc, place, watch)?;
-        record_of(
-            self.loaded.version,
-            self.loaded.parts.names.len(),
-            self.record_range(place).0,
-            bytes,
-        )
-    }
-
-    /// Reads the record of the entry at a place, by one read, which is left out where memory is wanting. What the bytes are is
-    /// not looked at; `judged` tells it.
-    pub fn read_record(
-        &self,
-        alloc: Global,
-        place: Place,
-        watch: &mut F::Watch,
-    ) -> Result<Vec<u8>, ReadFault>
-        requires { IsPlace self.now.index.slots place }
-        ensures read { IfOk result (λ read. IfSome (F.content self.now.file) (λ bytes. read.items ≡ record_at self.now.index.slots place.at bytes)) }
-        ensures long { IfOk result (λ read. length read.items ≡ length_at self.now.index.slots place.at) }
-        ensures no_damage { IsNoDamage result }
-        ensures counted { IsCountedOnce (IsErrOf result ReadFault.Disk) (IsOk result) (F.Watch.counts watch.old) (F.Watch.counts watch.new) }
-    {
         let directory = &self.loaded.parts.directory;
         let at = RECORDS_PLACE + directory.start(place.at);
         let count = directory.slot(place.at).length as usize;
-        bytes_of(alloc, &self.file, at, count, watch)
-    }
-
-    /// The record that the bytes of the entry at a place are, judged as `fetch` does. Takes memory where they are damage.
-    #[inline(always)]
-    pub fn judged<'b>(
-        &self,
-        alloc: Global,
-        place: Place,
-        bytes: &'b [u8],
-    ) -> Result<RecordRef<'b>, ReadFault>
-        requires { IsPlace self.now.index.slots place }
-        ensures same { IfOk result (λ found. (found.bytes ≡ bytes.now) × (found.form ≡ self.now.index.version)) }
-        ensures found { OnOk result (IsRecordWithin self.now.index.version (length self.now.index.names) bytes.now) }
-        ensures damaged { IfDamaged result (λ at kept. (at ≡ record_place self.now.index.slots place.at) × (kept ≡ bytes.now) × (IsRecordWithin self.now.index.version (length self.now.index.names) kept → ⊥)) }
-        ensures no_disk { IsNoDisk result }
-    {
-        judge(
-            alloc,
+        let bytes = bytes_of(alloc, &self.file, at, count, watch)?;
+        record_of(
             self.loaded.version,
             self.loaded.parts.names.len(),
-            self.record_range(place).0,
+            at,
             bytes,
         )
     }
