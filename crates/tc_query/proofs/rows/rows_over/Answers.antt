@@ -30,6 +30,9 @@ loop-key-init g c = record {
   faults = omega arith;
 }
 
+pub row_at-requires-clause-of : goal.row_at-requires-clause-of
+row_at-requires-clause-of g c κs within = subst (λ ks. AreReaders g.F.Frozen.content c.args.list.now ks) (sym c.deref_mut.ensures.value) c.loop-key.invariant.readers
+
 pub returns-in_err-row-clause-unharmed : goal.returns-in_err-row-clause-unharmed
 returns-in_err-row-clause-unharmed g c = λ cs all.
     let r = c.from_residual-in_err-row.result in
