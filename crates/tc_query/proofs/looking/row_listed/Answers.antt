@@ -16,6 +16,16 @@ pub row_stored-requires-clause-place : goal.row_stored-requires-clause-place
 row_stored-requires-clause-place g c = λ κs lives.
     place_there c.args.list.now c.args.key c.in-At.at c.component_at-component.result.now c.in-At.place c.component_at-component.ensures.there c.in-At.ensures
 
+pub row_stored-requires-clause-of : goal.row_stored-requires-clause-of
+row_stored-requires-clause-of g c κs lives =
+    let cs = c.args.list.now in
+    let readers = c.args.readers.now in
+    let at = c.in-At.at in
+    let m = c.component_at-component.result.now in
+    let here = c.component_at-component.ensures.there in
+    let within : at < length readers = subst (λ n. at < n) (sym c.requires.of.many) (slice_get_within cs at m here) in
+    c.requires.of.each at m (get_or readers at c.index-readers-at.result) here (slice_get-get_or readers at c.index-readers-at.result within)
+
 pub returns-in-Absent-clause-row : goal.returns-in-Absent-clause-row
 returns-in-Absent-clause-row g c = λ part cs is all.
     ap (map row_text) (rows_of_none (ask_of c.args.ask.now) c.args.key (live cs)
