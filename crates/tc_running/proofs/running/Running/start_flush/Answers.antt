@@ -12,7 +12,7 @@ use Rattle.tc_names.proofs.dictionary.Names.TheSendSync.{the_send as names_send}
 use Rattle.tc_schema.proofs.counters.Counts.TheSendSync.{the_send as counts_send, the_sync as counts_sync}
 use Rattle.tc_schema.proofs.place.Field.TheLaws.TheKnot.{both_send-Node}
 use Rattle.tc_schema.specs.contracts.whole.Schema as Schema
-use Rattle.tc_value.proofs.names.Text.TheSendSync.{the_send as text_send, the_sync as text_sync}
+use Rattle.tc_value.proofs.text.Text.TheSendSync.{the_send as text_send, the_sync as text_sync}
 use Rattle.tc_value.proofs.shape_tree.ShapeItems.TheLaws.TheKnot.{both_send-Shape, both_sync-Shape, both_send-ShapeItems, both_sync-ShapeItems, both_send-ShapeMembers, both_sync-ShapeMembers}
 use Rattle.tc_value.specs.contracts.shape_tree.Shape as Shape
 use Rattle.tc_running.proofs.running.Running.start_flush.Goals as goal

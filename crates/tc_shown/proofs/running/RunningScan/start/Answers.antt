@@ -25,7 +25,7 @@ use Rattle.tc_schema.proofs.counters.Counts.TheSendSync.{the_send as counts_send
 use Rattle.tc_schema.proofs.place.Field.TheLaws.TheKnot.{both_send-Node, both_sync-Node}
 use Rattle.tc_schema.specs.contracts.whole.Schema as Schema
 use Rattle.tc_value.proofs.document.Items.TheLaws.TheKnot.{both_send-Doc, both_send-Items, both_send-Members}
-use Rattle.tc_value.proofs.names.Text.TheSendSync.{the_send as text_send, the_sync as text_sync}
+use Rattle.tc_value.proofs.text.Text.TheSendSync.{the_send as text_send, the_sync as text_sync}
 use Rattle.tc_value.proofs.shape_tree.ShapeItems.TheLaws.TheKnot.{both_send-Shape, both_sync-Shape, both_send-ShapeItems, both_sync-ShapeItems, both_send-ShapeMembers, both_sync-ShapeMembers}
 use Rattle.tc_value.specs.contracts.document.Doc as Doc
 use Rattle.tc_value.specs.contracts.shape_tree.Shape as Shape
