@@ -8,6 +8,7 @@ its place, to answer no line of the window that met it, and to change neither th
 
 import json
 import pathlib
+import random
 import shutil
 import struct
 import sys
@@ -141,6 +142,37 @@ class HostileLines(Messages):
         self.assertEqual(ended.stdout.splitlines()[1:], [reply for _, reply in rows])
 
 
+    def test_names_and_texts_of_each_length(self):
+        # Short ones are kept in place: with characters of one to four bytes, around where they no longer are.
+        words = [character * count + rest for character in ("k", "é", "€", "🌍") for count in (0, 1, 7, 10, 15, 29, 30, 31, 32, 100)
+                 for rest in ("", "z", "\n")]
+        documents = [{"id": key, word: word, "deep": [{word: [word]}]} for key, word in enumerate(words)]
+        written = lines([{"op": "upsert", "doc": it} for it in documents])
+        asked = lines([get(it["id"]) for it in documents])
+        for flushed in b"", lines([FLUSH]):
+            replies = self.check(0, [], ":memory:", "run", lines=written + flushed + asked).stdout.splitlines()[-len(documents):]
+            self.assertEqual([json.loads(it)["doc"] for it in replies], documents)
+
+
+    def test_a_schema_of_many_names(self):
+        # They get their numbers in an order of chance, and stand in that of their bytes.
+        names = [f"{character}{number}" for character in ("", "a", "Z", "\"", "\\", "\n", "é", "€", "🌍") for number in range(100)]
+        chance = random.Random(8)
+        chance.shuffle(names)
+        counts = dict.fromkeys(names, 0)
+        documents = []
+        for key in range(60):
+            some = chance.sample(names, 60)
+            documents.append({"id": key, **dict.fromkeys(some, key)})
+            for name in some:
+                counts[name] += 1
+        fields = {name: {"count": counts[name], "kind": "integer"} for name in sorted(names, key=str.encode) if counts[name]}
+        told = json.dumps({"schemas": [{"count": 60, "fields": fields, "kind": "object"}]}, separators=(",", ":"), ensure_ascii=False)
+        written = lines([*({"op": "upsert", "doc": it} for it in documents), {"op": "schema"}])
+        ended = self.check(0, [], ":memory:", "run", "--partitions", "1", lines=written)
+        self.assertEqual(ended.stdout.splitlines()[-1].decode(), told)
+
+
 class DamageInARun(Damage):
     def test_a_get(self):
         self.make_store()
@@ -173,6 +205,27 @@ class DamageInARun(Damage):
         self.make_store()
         said = self.break_record(1)
         self.check_met(said, 1, [{"op": "query", "path": ["b"]}], 0)
+
+    def test_a_query_over_records_of_one_shape(self):
+        self.words = ("--partitions", "1", "--window", "1")
+        written = lines([*(upsert(key, rows=[{"x": 1, "y": "text"}] * 5) for key in range(6)), FLUSH])
+        query = {"op": "query", "path": ["a"]}
+        self.make(*self.words, lines=written)
+        content, places = (self.folder / "data/p0/c-1-1").read_bytes(), [RECORD]
+        for _ in range(6):
+            places.append(places[-1] + int.from_bytes(content[places[-1] : places[-1] + 4], "big"))
+        whole = self.check(0, [], "data", "run", *self.words, lines=lines([query])).stdout
+        self.assertEqual(json.loads(whole)["rows"], [{"id": key, "values": [1]} for key in range(6)])
+        for at in (0, 1, 3, 5):
+            # Twelve numbers of names have two bits each, and the last byte has those of x, y, x and y. Then names that do not ascend,
+            # no text in UTF-8, and no tag.
+            self.assertEqual(content[places[at + 1] - 1], 0b10111011)
+            for place, value in (places[at + 1] - 1, 0b10111110), (content.index(b"text", places[at]), 0xFF), (places[at] + TAG + 3, 99):
+                with self.subTest(at=at, value=value):
+                    shutil.rmtree(self.folder / "data")
+                    self.make(*self.words, lines=written)
+                    self.change(0, "c-1-1", place, value)
+                    self.check_met(self.told(0, "c-1-1", places[at]), 0, [query], 0)
 
     def test_a_scan_that_is_collected(self):
         self.make_store()
