@@ -1,14 +1,12 @@
 -- Stored documents whose records are alike have one shape.
-use Rattle.std.proofs.Common.{◌≡◌, ◌∙◌, ℕ, List, refl, sym, ap, subst}
-use Rattle.tc_model.specs.Tree.{leaf, array, object, Items, no_items, item, Members, no_members, member, relabel, items_relabel, members_relabel}
-use Rattle.tc_model.specs.Document.{Name, Document, Scalar, document_shape, scalar_kind}
+use Rattle.std.proofs.Common.{◌≡◌, ◌∙◌, ℕ, List, sym, ap, subst}
+use Rattle.tc_model.specs.Document.{Name, Document, document_shape}
 use Rattle.tc_model.specs.Dictionary.{Extends, IsDictionary}
 use Rattle.tc_model.specs.KnownNames.{HasEach}
 use Rattle.tc_model.specs.ShapeNames.{names_within}
 use Rattle.tc_record.specs.Preorder.{tokens_of}
 use Rattle.tc_record.specs.Record.{NumberedTree, record_of, IsNumberedForm, IsNumberedRecordIn, IsRecordOf}
 use Rattle.tc_compact.specs.Compacted.{compacted, IsCompactedIn}
-use Rattle.tc_compact.specs.Meant.{name_at, expanded}
 use Rattle.tc_alike.specs.Alike.{AreAlike}
 use Rattle.tc_alike.proofs.AlikeShapes.{alike_named}
 use Rattle.tc_audit.specs.Stored.{IsStoredIn}

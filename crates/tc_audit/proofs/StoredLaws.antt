@@ -1,26 +1,20 @@
 -- Which records spell documents as components keep them.
-use Rattle.std.proofs.Common.{◌≡◌, ◌∙◌, ◌↔◌, ◌<◌, ◌≤◌, ◌+◌, ◌*◌, ◌^◌, nat_lt, ℕ, Bool, true, false, IsTrue, List, length, refl, sym, ap, subst, arith, inl, inr}
+use Rattle.std.proofs.Common.{◌≡◌, ◌∙◌, ◌↔◌, ◌<◌, ◌^◌, ℕ, Bool, true, false, IsTrue, List, length, refl, sym, ap, subst, arith, inl, inr}
 use Rattle.std.specs.List.{AllByRecursion}
 use Rattle.std.proofs.lemmas.Bool.{both_ways}
-use Rattle.std.proofs.lemmas.Bool.Decides.{nat_tests}
-use Rattle.std.proofs.lemmas.Option.{same_Some}
 use Rattle.tc_model.specs.Document.{Name, Document, document_shape}
 use Rattle.tc_model.specs.Dictionary.{Extends, IsDictionary}
 use Rattle.tc_model.specs.KnownNames.{HasEach}
 use Rattle.tc_model.specs.ShapeNames.{names_within}
 use Rattle.tc_model.specs.Stored.{IsKeyless}
-use Rattle.tc_names.specs.Longest.{longest_of}
-use Rattle.tc_record.specs.Record.{labels, texts, record_of, NumberedTree, IsNumberedForm, IsNumberedRecordIn, IsRecordOf}
+use Rattle.tc_record.specs.Record.{labels, record_of, NumberedTree, IsNumberedForm, IsNumberedRecordIn, IsRecordOf}
 use Rattle.tc_record.specs.Preorder.{tokens_of}
-use Rattle.tc_record.specs.Borrowed.{Record, Spells, IsBelow, named_tokens, numbered_tokens}
-use Rattle.tc_record.specs.Walk.{Format}
-use Rattle.tc_record.proofs.Reading.{document_again, numbered_again}
+use Rattle.tc_record.specs.Borrowed.{Record, Spells, IsBelow, numbered_tokens}
 use Rattle.tc_compact.specs.Compacted.{compacted, IsCompactedIn}
 use Rattle.tc_compact.specs.Meant.{expanded, IsRecordUnder}
 use Rattle.tc_compact.proofs.Agreeing.{same_order}
-use Rattle.tc_compact.proofs.Compacts.{Tokens, two_forms, document_names, document_tokens}
+use Rattle.tc_compact.proofs.Compacts.{document_names, document_tokens}
 use Rattle.tc_compact.proofs.NumberedTrees.{tree_tokens}
-use Rattle.tc_compact.proofs.NamedSizes.{named_most}
 use Rattle.tc_alike.proofs.Forms.{tree_form}
 use Rattle.tc_component.specs.Fetching.{IsRecordWithin}
 use Rattle.tc_component.proofs.EntryRecords.{kept, within_names, IsKept}

@@ -1,9 +1,8 @@
 -- What the shape of a document tells of it: whether it has a member `id`.
-use Rattle.std.proofs.Common.{◌≡◌, ◌∙◌, ◌||◌, Bool, true, false, not, is_some, if◌then◌else◌, List, ◌∷◌, Some, map, refl, sym, ap, subst, codes, bytes_eq}
+use Rattle.std.proofs.Common.{◌≡◌, ◌∙◌, ◌||◌, Bool, true, false, not, is_some, if◌then◌else◌, Some, refl, sym, ap, codes, bytes_eq}
 use Rattle.std.specs.List.{list_any}
-use Rattle.std.specs.List.Sorted.{IsStrictlySortedBy}
-use Rattle.tc_model.specs.Tree.{leaf, array, object, Items, no_items, item, Members, no_members, member, items_relabel, members_relabel, listed_members}
-use Rattle.tc_model.specs.Document.{Name, Document, Scalar, scalar_kind, name_cmp, member_at, document_shape, IsDocument, IsScalar, AreItemsOf, AreMembersOf}
+use Rattle.tc_model.specs.Tree.{leaf, array, object, Members, no_members, member, members_relabel}
+use Rattle.tc_model.specs.Document.{Name, Document, Scalar, scalar_kind, member_at, document_shape}
 use Rattle.tc_model.specs.Stored.{IsKeyless}
 use Rattle.tc_alike.proofs.OrderedShapes.{listed_names, same_names}
 use Rattle.tc_audit.proofs.LackedLabels.{nothing_is}
