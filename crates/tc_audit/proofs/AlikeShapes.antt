@@ -16,7 +16,7 @@ use Rattle.tc_audit.proofs.StoredLaws.{kept_in, known_under, stored_numbered}
 module _ (names : List Name) where
   pub alike_shape : (d e : Document) → HasEach names (names_within (document_shape d)) → HasEach names (names_within (document_shape e)) → AreAlike (tokens_of (compacted names d)) (tokens_of (compacted names e)) → document_shape d ≡ document_shape e
   alike_shape d e known others alike =
-      ap document_shape (sym (tree_again names d known)) ∙ alike_named (compacted names d) (compacted names e) alike ∙ ap document_shape (tree_again names e others)
+      ap document_shape (sym (tree_again names d known)) ∙ alike_named names (compacted names d) (compacted names e) alike ∙ ap document_shape (tree_again names e others)
 
 -- the record of a document and a newer one under newer names
 module _ (stays : (form : ℕ) (d : Document) (whole bytes : List ℕ) (names newer : List Name) → IsRecordOf d whole → IsCompactedIn form names d bytes → IsDictionary newer → Extends newer names → IsCompactedIn form newer d bytes) where
