@@ -104,7 +104,8 @@ pub(crate) fn shapes_are_the_same(alloc: Global, bytes: &[u8]) -> Result<bool, R
         return Ok(false);
     };
     let wanted = format!(in alloc; "{:?}", decode(alloc, bytes)?.shape(alloc)?)?;
-    let of_named = format!(in alloc; "{:?}", shape_of(alloc, named, &names)?)?;
-    let of_numbered = format!(in alloc; "{:?}", shape_of(alloc, record, &names)?)?;
+    // A copy keeps its names as a decoded document does.
+    let of_named = format!(in alloc; "{:?}", shape_of(alloc, named, &names)?.copy(alloc)?)?;
+    let of_numbered = format!(in alloc; "{:?}", shape_of(alloc, record, &names)?.copy(alloc)?)?;
     Ok(of_named == wanted && of_numbered == wanted)
 }
