@@ -3,20 +3,21 @@
 ghost use Rattle.std.specs.Prelude.{◌≡◌, ◌≤◌, length, IfOk, IsUtf8, string_bytes};
 
 use std::alloc::{AllocError, Global};
+use std::fmt;
 use std::marker::Model;
 
 /// How many bytes the longest text has that is kept in place.
 const MOST: usize = 30;
 
 /// A text, or the name of a member. Contracts see its UTF-8 bytes.
-#[derive(Drop, Debug)]
+#[derive(Drop)]
 pub struct Text {
     kept: Kept,
 }
 
 /// Where the bytes of a text are. Most names of members are short: to take memory for each and to give it back would cost
 /// more than all else that is done with them.
-#[derive(Drop, Debug)]
+#[derive(Drop)]
 enum Kept {
     /// The first so many bytes.
     InPlace { len: u8, bytes: [u8; MOST] },
@@ -73,6 +74,13 @@ impl Text {
         ensures { IfOk result (λ copied. copied ≡ self.now) }
     {
         Text::copy_of(alloc, self.as_str())
+    }
+}
+
+/// Shown as the text that it is, wherever that is kept.
+impl fmt::Debug for Text {
+    fn fmt<W: fmt::Write>(&self, f: &mut fmt::Formatter<W>) -> fmt::Result {
+        fmt::Debug::fmt(self.as_str(), f)
     }
 }
 
