@@ -23,18 +23,21 @@ pub(crate) fn tags_behind_close<'a>(tags: &'a [u8], walk: &mut Walk<'_>) -> &'a 
         return tags;
     }
     let outer = walk.kinds.depth - 1;
+    // a copy, since what each token moves on stays in registers then
+    let mut here = *walk;
     let mut left = tags;
     while let Some((tag, rest)) = u8_at(left) {
         left = rest;
         if tag == CLOSE_TAG {
-            walk.kinds.close();
-            if walk.kinds.depth == outer {
+            here.kinds.close();
+            if here.kinds.depth == outer {
                 break;
             }
-        } else if !passes_value_in(walk, tag) {
+        } else if !passes_value_in(&mut here, tag) {
             break;
         }
     }
+    *walk = here;
     left
 }
 

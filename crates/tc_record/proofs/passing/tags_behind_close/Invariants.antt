@@ -5,8 +5,8 @@ use Rattle.tc_record.proofs.passing.tags_behind_close.Given as goal
 
 abbrev pub invariant-loop-tag : goal.invariant-loop-tag
 invariant-loop-tag l = record {
-  deep : l.outer < l.walk.kinds.depth;
-  left : option_map (behind_closes (l.walk.kinds.depth - l.outer)) (tokens_left true l.left l.walk) ≡ option_map behind_close (tokens_left true l.fn.tags l.fn.walk);
+  deep : l.outer < l.here.kinds.depth;
+  left : option_map (behind_closes (l.here.kinds.depth - l.outer)) (tokens_left true l.left l.here) ≡ option_map behind_close (tokens_left true l.fn.tags l.fn.walk);
 }
 
 abbrev pub decreases-loop-tag : goal.decreases-loop-tag
