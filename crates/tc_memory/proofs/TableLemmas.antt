@@ -8,11 +8,9 @@ use Rattle.std.specs.BTreeMap.{insert_entry, is_at}
 use Rattle.std.proofs.lemmas.Bool.{eqb-true}
 use Rattle.std.proofs.lemmas.List.Elements.{All-head, All-tail}
 use Rattle.tc_model.specs.Document.{ShapeTree}
-use Rattle.tc_value.specs.ShapeMeaning.{shape_tree}
-use Rattle.tc_value.specs.declared.shape_tree.Shape.{Shape}
 use Rattle.tc_model.specs.Keyed.{value_of, without_key}
 use Rattle.tc_memory.specs.Table.{Held, Kept, Table, IsTable, IsLawfulKept, IsLawfulEntry, below_at, holding}
-use Rattle.tc_memory.specs.Meaning.{version_of, kept_of, table_of, held_of, IsLawfulHeld}
+use Rattle.tc_memory.specs.Meaning.{version_of, kept_of, shape_apart, table_of, held_of, IsLawfulHeld}
 use Rattle.tc_memory.specs.declared.held.Held as held
 use Rattle.tc_memory.specs.declared.held.Held.TheVariants as variant
 use Rattle.tc_memory.specs.declared.slot.Version.{Version}
@@ -42,10 +40,10 @@ table_of-set_value n version handed old es ascending found =
     (ap table_of (set_value-insert_entry n old (record { version = version; below = old.below }) es ascending (sym found)) ∙ map-insert_entry kept_of n (record { version = version; below = old.below }) es)
 
 -- a slot put in
-pub table_of-insert_entry : (n : ℕ) (version : Version) (below : Option Shape) (es : List (ℕ × Slot)) → None ≡ lookup (is_at (nat_cmp n)) es
-    → table_of (insert_entry nat_cmp es n (record { version = version; below = below })) ≡ holding n (version_of version) (option_map shape_tree below) (table_of es)
-table_of-insert_entry n version below es absent =
-    rw (kept_of-lookup n None es absent) (map-insert_entry kept_of n (record { version = version; below = below }) es)
+pub table_of-insert_entry : (n : ℕ) (slot : Slot) (es : List (ℕ × Slot)) → None ≡ lookup (is_at (nat_cmp n)) es
+    → table_of (insert_entry nat_cmp es n slot) ≡ holding n (version_of slot.version) (shape_apart slot.below) (table_of es)
+table_of-insert_entry n slot es absent =
+    rw (kept_of-lookup n None es absent) (map-insert_entry kept_of n slot es)
 
 -- what holds of each entry holds of the one found
 found_step : (P : ℕ × Kept → Type 0) (b : Bool) (n : ℕ) (e : ℕ × Kept) (rest : Option Kept) → (b ≡ true → n ≡ e.0) → P e → IfSome rest (λ k. P (n, k)) → IfSome (if b then Some e.1 else rest) (λ k. P (n, k))

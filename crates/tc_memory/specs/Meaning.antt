@@ -1,6 +1,10 @@
 -- What the parts of a memory table are seen as.
-use Rattle.std.specs.Prelude.{ℕ, List, map, option_map}
+use Rattle.std.specs.Prelude.{ℕ, List, Option, map, option_map}
+use Rattle.std.specs.Global.{Global}
+use Rattle.std.specs.declared.boxed.Box.{Box}
+use Rattle.tc_value.specs.declared.shape_tree.Shape.{Shape}
 use Rattle.tc_value.specs.ShapeMeaning.{shape_tree}
+use Rattle.tc_model.specs.Document.{ShapeTree}
 use Rattle.tc_record.specs.StoredRecord.{IsStoredRecord}
 use Rattle.tc_model.specs.Keyed.{on_value}
 use Rattle.tc_memory.specs.Table as table
@@ -15,8 +19,12 @@ abbrev pub version_of : Version → table.Held
 version_of version.Gone = table.gone
 version_of (version.Live bytes) = table.live bytes
 
+-- a shape that stands apart from its slot
+abbrev pub shape_apart : Option (Box Shape Global) → Option ShapeTree
+shape_apart kept = option_map (λ b. shape_tree b.value) kept
+
 abbrev pub kept_of : Slot → table.Kept
-kept_of s = record { held = version_of s.version; below = option_map shape_tree s.below }
+kept_of s = record { held = version_of s.version; below = shape_apart s.below }
 
 -- the entries of a map from keys to slots, as those of a table
 abbrev pub table_of : List (ℕ × Slot) → table.Table

@@ -3,7 +3,7 @@
 use crate::entries::Entries;
 use crate::held::Held;
 use crate::sealed::Sealed;
-use crate::slot::{Slot, Version};
+use crate::slot::{Slot, Version, apart};
 use std::alloc::Global;
 use std::collections::BTreeMap;
 use std::marker::Model;
@@ -14,6 +14,7 @@ use tc_value::Shape;
 /// list of the entries in ascending key. Each call takes time logarithmic in their number.
 pub struct Memtable {
     slots: BTreeMap<u64, Slot>,
+    alloc: Global,
 }
 
 impl Model for Memtable {
@@ -33,7 +34,7 @@ impl Model for Memtable {
 impl Drop for Memtable {
     /// One call, so that whoever drops a table sees nothing of its map.
     fn drop(self) {
-        let Memtable { slots } = self;
+        let Memtable { slots, alloc: _ } = self;
         drop(slots);
     }
 }
@@ -52,6 +53,7 @@ impl Memtable {
     {
         Memtable {
             slots: BTreeMap::new(alloc),
+            alloc,
         }
     }
 
@@ -146,6 +148,7 @@ impl Memtable {
             slot.version = version;
             return Ok(());
         }
+        let below = apart(self.alloc, below)?;
         self.slots.insert(key, Slot { version, below })?;
         Ok(())
     }

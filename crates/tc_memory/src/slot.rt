@@ -1,12 +1,13 @@
 //! What a table keeps of a key.
 
-ghost use Rattle.std.specs.Prelude.{◌≡◌, option_map};
+ghost use Rattle.std.specs.Prelude.{◌≡◌, option_map, IfOk};
 ghost use Rattle.tc_value.specs.ShapeMeaning.{shape_tree};
 ghost use Rattle.tc_memory.specs.Table as table;
-ghost use Rattle.tc_memory.specs.Meaning.{version_of, kept_of, held_of, entry_of};
+ghost use Rattle.tc_memory.specs.Meaning.{version_of, kept_of, held_of, entry_of, shape_apart};
 
 use crate::held::{Entry, Held};
-use tc_bytes::Bytes;
+use std::alloc::Global;
+use tc_bytes::{Bytes, Memory};
 use tc_value::Shape;
 
 /// The newest version of a key's document.
@@ -16,10 +17,11 @@ pub(crate) enum Version {
     Live(Bytes),
 }
 
-/// The newest version, and the shape of the document below the table.
+/// The newest version, and the shape of the document below the table. The shape stands apart: most slots of a load have none,
+/// and a map takes room for up to twice its slots.
 pub(crate) struct Slot {
     pub(crate) version: Version,
-    pub(crate) below: Option<Shape>,
+    pub(crate) below: Option<Box<Shape>>,
 }
 
 impl Drop for Slot {
@@ -51,7 +53,27 @@ impl Slot {
         Entry {
             key,
             held: self.version.lend(),
-            below: self.below.as_ref(),
+            below: lent(&self.below),
         }
+    }
+}
+
+/// A shape that stands apart, lent.
+fn lent(below: &Option<Box<Shape>>) -> Option<&Shape>
+    ensures { option_map (λ s. shape_tree s.now) result ≡ shape_apart below.now }
+{
+    match below {
+        None => None,
+        Some(shape) => Some(&**shape),
+    }
+}
+
+/// A shape, put apart. Errs only for want of memory.
+pub(crate) fn apart(alloc: Global, below: Option<Shape>) -> Result<Option<Box<Shape>>, Memory>
+    ensures { IfOk result (λ kept. shape_apart kept ≡ option_map shape_tree below) }
+{
+    match below {
+        None => Ok(None),
+        Some(shape) => Ok(Some(Box::new(alloc, shape)?)),
     }
 }

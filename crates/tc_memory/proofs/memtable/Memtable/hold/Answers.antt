@@ -26,15 +26,18 @@ returns-in-Some-clause-ok c =
 
 pub invariant_of-self-2 : goal.invariant_of-self-2
 invariant_of-self-2 c =
-    let slot : Slot = record { version = c.args.version; below = c.args.below } in
+    let slot : Slot = record { version = c.args.version; below = c.in_ok-below.below } in
     let es = c.self.inside.slots.entries in
     let handed = option_map shape_tree c.args.below in
     let put : table_of c.insert.new.self.entries ≡ holding c.args.key (version_of c.args.version) handed (table_of es) =
-    ap table_of (c.in_ok-insert.ensures.entries ∙ ap (λ m. insert_entry nat_cmp m.entries c.args.key slot) c.get_mut.follows.holds-at-none) ∙ table_of-insert_entry c.args.key c.args.version c.args.below es c.in_default.ensures.value in
+    ap table_of (c.in_ok-insert.ensures.entries ∙ ap (λ m. insert_entry nat_cmp m.entries c.args.key slot) c.get_mut.follows.holds-at-none) ∙ table_of-insert_entry c.args.key slot es c.in_default.ensures.value
+    ∙ ap (λ below. holding c.args.key (version_of c.args.version) below (table_of es)) c.in_ok-below.ensures in
     rw put (IsTable-holding c.args.key (version_of c.args.version) handed (table_of es) c.requires.key (rw c.self.view_is c.requires.lawful) c.self.invariant)
 
 pub returns-clause-ok : goal.returns-clause-ok
 returns-clause-ok c =
-    let slot : Slot = record { version = c.args.version; below = c.args.below } in
+    let slot : Slot = record { version = c.args.version; below = c.in_ok-below.below } in
+    let es = c.self.inside.slots.entries in
     rw (← c.self.view_is)
-    (ap table_of (c.in_ok-insert.ensures.entries ∙ ap (λ m. insert_entry nat_cmp m.entries c.args.key slot) c.get_mut.follows.holds-at-none) ∙ table_of-insert_entry c.args.key c.args.version c.args.below c.self.inside.slots.entries c.in_default.ensures.value)
+    (ap table_of (c.in_ok-insert.ensures.entries ∙ ap (λ m. insert_entry nat_cmp m.entries c.args.key slot) c.get_mut.follows.holds-at-none) ∙ table_of-insert_entry c.args.key slot es c.in_default.ensures.value
+    ∙ ap (λ below. holding c.args.key (version_of c.args.version) below (table_of es)) c.in_ok-below.ensures)

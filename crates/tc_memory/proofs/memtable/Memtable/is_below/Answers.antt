@@ -11,7 +11,7 @@ pub returns-in-Some : goal.returns-in-Some
 returns-in-Some c =
     let found : value_of c.args.key c.args.self.now ≡ Some (kept_of c.in-Some.slot.now) =
     rw (← c.self.view_is) (kept_of-lookup c.args.key (Some c.in-Some.slot.now) c.self.inside.slots.entries c.in-Some.ensures.value) in
-    rw found (c.is_some.ensures ∙ is_some-option_map shape_tree c.in-Some.slot.now.below)
+    rw found (c.is_some.ensures ∙ is_some-option_map (λ b. shape_tree b.value) c.in-Some.slot.now.below)
 
 pub returns-in-None : goal.returns-in-None
 returns-in-None c =
