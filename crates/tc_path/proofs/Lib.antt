@@ -1,2 +1,3 @@
+mod Among
 pub mod Firsts
 pub mod Lawful

@@ -1,8 +1,9 @@
 -- The values of a record, and the first of those that hops reach.
-use Rattle.std.specs.Prelude.{List, [], ◌∷◌, map, flat_map, Option, None, Some}
+use Rattle.std.specs.Prelude.{Bool, List, [], ◌∷◌, map, flat_map, Option, None, Some}
 use Rattle.tc_model.specs.Document.{Name, Document, Scalar}
 use Rattle.tc_request_model.specs.Request.{Hop}
 use Rattle.tc_request_model.specs.Paths.{reached}
+use Rattle.tc_request_model.specs.Rows.{is_among}
 use Rattle.tc_record.specs.Preorder.{Token}
 use Rattle.tc_record.specs.Walk.{Key}
 use Rattle.tc_record.specs.Building.{document_read, HoldDocuments}
@@ -23,6 +24,10 @@ first_in (x ∷ xs) = Some x
 -- the first value that hops reach in documents, one document after the other
 abbrev pub first_reached : List Hop → List Document → Option Document
 first_reached hops ds = first_in (flat_map (reached hops) ds)
+
+-- whether hops reach this document, from one of several
+abbrev pub is_reached : Document → List Hop → List Document → Bool
+is_reached d hops ds = is_among d (flat_map (reached hops) ds)
 
 -- the values of several tokens, each the first of a value
 abbrev pub values_at : List Name → List (List (Token Key Scalar)) → List (Option Document)

@@ -1,6 +1,6 @@
 //! Values of a record compared with documents.
 
-ghost use Rattle.std.specs.Prelude.{◌≡◌, ◌≤◌, List, IsTrue, length, map};
+ghost use Rattle.std.specs.Prelude.{◌≡◌, ◌≤◌, List, IsTrue, false, length, map};
 ghost use Rattle.tc_model.specs.Tree.{leaf, items_of, members_of};
 ghost use Rattle.tc_model.specs.Document.{Name, null, boolean, integer, text};
 ghost use Rattle.tc_value.specs.Meaning.{tree_of, member_of};
@@ -8,12 +8,57 @@ ghost use Rattle.tc_record.specs.WalkView.{piece_of};
 ghost use Rattle.tc_record.specs.Building.{innermost, outer, value_in, member_in, value_read};
 ghost use Rattle.tc_compact.specs.Meant.{levels_meant};
 ghost use Rattle.tc_request_model.specs.Equal.{same_document, same_items, same_members};
-ghost use Rattle.tc_path.specs.Same.{is_same, holds_none};
+ghost use Rattle.tc_path.specs.Same.{is_same, holds_none, scalar_in};
 
 use tc_names::Names;
 use tc_record::{Cursor, Piece, Token};
-use tc_record_text::{closes, has_name};
+use tc_record_text::{closes, has_name, skip};
 use tc_value::{Doc, Member};
+
+/// Whether the value that a token is or opens is this document. If it is not, the cursor stands behind the value, where the
+/// walk goes on there.
+pub(crate) fn is_value(
+    cursor: &mut Cursor<'_>,
+    token: Token<'_>,
+    names: &Names,
+    doc: &Doc,
+    goes_on: bool,
+) -> bool
+    ensures same { result ≡ is_same (value_read (piece_of token.entry.value) (levels_meant names.now cursor.old)).0 (tree_of doc.now) }
+    ensures behind { IsTrue goes_on → result ≡ false → levels_meant names.now cursor.new ≡ (value_read (piece_of token.entry.value) (levels_meant names.now cursor.old)).1 }
+    ensures shorter { length cursor.new ≤ length cursor.old }
+{
+    match token.value {
+        Piece::Array => is_opened(cursor, token, names, doc, goes_on),
+        Piece::Object => is_opened(cursor, token, names, doc, goes_on),
+        scalar => is_scalar(scalar, doc),
+    }
+}
+
+/// Whether the array or the object that a token opens is this document. If it is not, the cursor stands behind the close,
+/// where the walk goes on there.
+fn is_opened(
+    cursor: &mut Cursor<'_>,
+    token: Token<'_>,
+    names: &Names,
+    doc: &Doc,
+    goes_on: bool,
+) -> bool
+    ensures same { result ≡ is_same (value_read (piece_of token.entry.value) (levels_meant names.now cursor.old)).0 (tree_of doc.now) }
+    ensures behind { IsTrue goes_on → result ≡ false → levels_meant names.now cursor.new ≡ (value_read (piece_of token.entry.value) (levels_meant names.now cursor.old)).1 }
+    ensures shorter { length cursor.new ≤ length cursor.old }
+{
+    if !goes_on {
+        return equals_value(cursor, token, names, doc);
+    }
+    // A comparison that fails leaves its cursor anywhere.
+    let mut ahead = cursor.again();
+    if equals_value(&mut ahead, token, names, doc) {
+        return true;
+    }
+    skip(cursor, token.value);
+    false
+}
 
 /// Whether the value that a token is or opens is this document. If it is, the cursor stands behind it.
 #[cycle(comparing)]
@@ -28,10 +73,6 @@ pub(crate) fn equals_value(
     ensures shorter { length cursor.new ≤ length cursor.old }
 {
     match token.value {
-        Piece::Null => is_null(doc),
-        Piece::Bool(value) => is_bool(doc, value),
-        Piece::Int(value) => is_int(doc, value),
-        Piece::Text(value) => is_text(doc, value),
         Piece::Array => match doc {
             Doc::Array(items) => equals_items(cursor, names, items.as_slice()),
             _other => false,
@@ -40,7 +81,7 @@ pub(crate) fn equals_value(
             Doc::Object(members) => equals_members(cursor, names, members.as_slice()),
             _other => false,
         },
-        Piece::Close => false,
+        scalar => is_scalar(scalar, doc),
     }
 }
 
@@ -94,6 +135,19 @@ fn ends_here(cursor: &mut Cursor<'_>) -> bool
     match cursor.next() {
         None => true,
         Some(token) => closes(token.value),
+    }
+}
+
+/// Whether the scalar that a piece is, if it is one, is this document.
+fn is_scalar(piece: Piece<'_>, doc: &Doc) -> bool
+    ensures { result ≡ is_same (scalar_in (piece_of piece.entry)) (tree_of doc.now) }
+{
+    match piece {
+        Piece::Null => is_null(doc),
+        Piece::Bool(value) => is_bool(doc, value),
+        Piece::Int(value) => is_int(doc, value),
+        Piece::Text(value) => is_text(doc, value),
+        _other => false,
     }
 }
 

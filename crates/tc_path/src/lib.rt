@@ -3,9 +3,11 @@
 
 mod comparing;
 mod finding;
+mod reaching;
 mod selecting;
 mod value;
 
 pub use finding::first;
+pub use reaching::reaches;
 pub use selecting::select;
 pub use value::ValueRef;
