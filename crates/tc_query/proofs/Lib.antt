@@ -1,4 +1,3 @@
-pub mod ReachedValues
 mod PutRows
 pub mod BelowKeys
 pub mod AheadKeys

@@ -1,5 +1,5 @@
 -- The row of what a path reaches, by the text that was put of it.
-use Rattle.std.proofs.Common.{◌≡◌, ◌∙◌, ℕ, List, [], ◌∷◌, true, None, Option, map, append-nil, refl, ap}
+use Rattle.std.proofs.Common.{◌≡◌, ◌∙◌, ℕ, List, [], ◌∷◌, true, false, None, Option, map, append-nil, refl, ap}
 use Rattle.std.specs.Prelude.{if◌then◌else◌}
 use Rattle.tc_model.specs.Document.{Document}
 use Rattle.tc_request_model.specs.Rows.{meets, row_of}
@@ -26,3 +26,8 @@ one_put key (v ∷ vs) text is some = ap (one key) (is ∙ append-nil (row_text 
 pub met_row : (wanted : Option Document) (key : ℕ) (ds : List Document) → meets wanted ds ≡ true → row_of wanted key ds ≡ row_of None key ds
 met_row wanted key [] met = refl
 met_row wanted key (d ∷ ds) met = ap (λ b. if b then record { key = key; values = d ∷ ds } ∷ [] else []) met
+
+-- or it was not, and there is no row
+pub left_out : (wanted : Option Document) (key : ℕ) (ds : List Document) → meets wanted ds ≡ false → row_of wanted key ds ≡ []
+left_out wanted key [] other = refl
+left_out wanted key (d ∷ ds) other = ap (λ b. if b then record { key = key; values = d ∷ ds } ∷ [] else []) other

@@ -1,12 +1,10 @@
 //! The row of one record.
 
-ghost use Rattle.std.specs.Prelude.{◌≡◌, List, Some, None, IfOk, map, option_map, option_to_list};
+ghost use Rattle.std.specs.Prelude.{◌≡◌, None, IfOk, map, option_map, option_to_list};
 ghost use Rattle.tc_model.specs.Document.{Document};
-ghost use Rattle.tc_value.specs.Meaning.{tree_of};
 ghost use Rattle.tc_compact.specs.Meant.{IsRecordUnder};
-ghost use Rattle.tc_path.specs.Reached.{values_at};
 ghost use Rattle.tc_request_model.specs.Paths.{reached};
-ghost use Rattle.tc_request_model.specs.Rows.{is_among, meets as meets_value, row_of as row_reached};
+ghost use Rattle.tc_request_model.specs.Rows.{meets as meets_value, row_of as row_reached};
 ghost use Rattle.tc_request_model.specs.Rendered.{row_text};
 ghost use Rattle.tc_command.specs.Commands.{ask_of};
 ghost use Rattle.tc_command.specs.Rows.{row_of};
@@ -15,10 +13,9 @@ use std::alloc::{AllocError, Global};
 use tc_bytes::Bytes;
 use tc_command::{Ask, PathExpr, Row};
 use tc_names::Names;
-use tc_path::{ValueRef, select};
+use tc_path::reaches;
 use tc_record::RecordRef;
 use tc_record_text::put_row;
-use tc_value::Doc;
 
 /// The row that an ask gets of a key's document, by a record of any form that is known to spell it where numbers mean names of
 /// the dictionary; `None` where the document gives none. Errs only for want of memory.
@@ -31,8 +28,7 @@ pub fn row_of_known(
 ) -> Result<Option<Row>, AllocError>
     ensures { (d : Document) → IsRecordUnder names.now d of.entry.bytes → IfOk result (λ row. option_to_list (option_map row_of row) ≡ map row_text (row_reached (ask_of ask.now).equal_to key (reached (ask_of ask.now).path d))) }
 {
-    let met = meets(alloc, of.again(), names, ask)?;
-    if !met {
+    if !meets(of.again(), names, ask) {
         return Ok(None);
     }
     row_of_path(alloc, key, of, names, &ask.path)
@@ -62,38 +58,12 @@ fn row_of_path(
     }))
 }
 
-/// Whether what an ask asks for is among the values that its path reaches, if it asks for one.
-fn meets(alloc: Global, of: RecordRef<'_>, names: &Names, ask: &Ask) -> Result<bool, AllocError>
-    ensures { (d : Document) → IsRecordUnder names.now d of.entry.bytes → IfOk result (λ met. met ≡ meets_value (ask_of ask.now).equal_to (reached (ask_of ask.now).path d)) }
+/// Whether what an ask asks for is among the values that its path reaches, if it asks for one. Takes no memory.
+fn meets(of: RecordRef<'_>, names: &Names, ask: &Ask) -> bool
+    ensures { (d : Document) → IsRecordUnder names.now d of.entry.bytes → result ≡ meets_value (ask_of ask.now).equal_to (reached (ask_of ask.now).path d) }
 {
     match &ask.eq {
-        None => Ok(true),
-        Some(doc) => reaches(alloc, of, names, &ask.path, doc),
+        None => true,
+        Some(doc) => reaches(of, names, &ask.path, doc),
     }
-}
-
-/// Whether a path reaches this document.
-fn reaches(
-    alloc: Global,
-    of: RecordRef<'_>,
-    names: &Names,
-    path: &PathExpr,
-    doc: &Doc,
-) -> Result<bool, AllocError>
-    ensures { (d : Document) → IsRecordUnder names.now d of.entry.bytes → IfOk result (λ found. found ≡ is_among (tree_of doc.now) (reached path.now d)) }
-{
-    let values = select(alloc, of, names, path)?;
-    Ok(is_one_of(&values, names, doc))
-}
-
-/// Whether one of the values is this document.
-fn is_one_of(values: &[ValueRef<'_>], names: &Names, doc: &Doc) -> bool
-    ensures { (ds : List Document) → values_at names.now values.now ≡ map Some ds → result ≡ is_among (tree_of doc.now) ds }
-{
-    for value in values {
-        if value.equals(names, doc) {
-            return true;
-        }
-    }
-    false
 }
