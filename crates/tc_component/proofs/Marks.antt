@@ -11,7 +11,7 @@ use Rattle.tc_bytes.proofs.Lists.{elements_none, elements_refused, elements_more
 use Rattle.tc_component.specs.declared.head.Sizes.{Sizes}
 use Rattle.tc_component.specs.declared.slot.Slot.{Slot}
 use Rattle.tc_component.specs.Columns.{front_slot, slots_in, AreMarks, IsMarked, AreHeld}
-use Rattle.tc_component.specs.Layout.{number_end}
+use Rattle.tc_component.specs.Layout.{number_end, mark_step}
 use Rattle.tc_component.specs.Spelling.{slot_bytes, directory, lengths_of, IsSlot}
 use Rattle.tc_component.specs.Reading.{slot_at, next_key, follows, is_total, directory_read}
 use Rattle.tc_component.proofs.Directories.{next_pushed, lengths_pushed, both_tests, directory_found}
@@ -47,7 +47,7 @@ slot_here (suc n) (suc i) bytes within =
 pub first_mark : AreMarks (0 ∷ []) []
 first_mark = record { more = omega arith; most = omega arith; each = first }
   where
-    first : (i : ℕ) → i * 16 ≤ 0 → get_or (0 ∷ []) i 0 ≡ lengths_of (take (i * 16) [])
+    first : (i : ℕ) → i * mark_step ≤ 0 → get_or (0 ∷ []) i 0 ≡ lengths_of (take (i * mark_step) [])
     first zero within = refl
     first (suc i) within = absurd (omega (arith, within))
 

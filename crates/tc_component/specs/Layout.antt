@@ -45,4 +45,4 @@ window_size = 65536
 
 -- in memory, so many entries of a directory stand between two marks
 abbrev pub mark_step : ℕ
-mark_step = 16
+mark_step = 8

@@ -2,6 +2,7 @@
 
 ghost use Rattle.std.specs.Prelude.{◌≡◌, ◌<◌, ◌≤◌, ◌+◌, ◌-◌, ℕ, List, Err, Some, slice_get, length, min, take, IfOk, IfSome, IsErrOf};
 ghost use Rattle.std.specs.Result.{IsOk};
+ghost use Rattle.tc_schema_model.specs.Counted.{documents_of};
 ghost use Rattle.tc_store.specs.Counted.{IsCountedOnce};
 ghost use Rattle.tc_store.specs.Judging.{Judges, IfDamaged, damage as a_damage};
 ghost use Rattle.tc_component.specs.declared.slot.Slot.{Slot as OneSlot};
@@ -22,12 +23,12 @@ use crate::reading::{front_in, named_head_in};
 use crate::slot::Slot;
 use std::alloc::Global;
 use std::marker::Model;
-use tc_bytes::Bytes;
+use tc_bytes::{Bytes, Memory};
 use tc_names::Names;
 use tc_schema::Schema;
 use tc_store::{FileName, Frozen, ReadFault, bytes_of};
 
-/// A component whose file is still. Its directory, its names and its schema are in memory, and its records are not.
+/// A component whose file is still. Its directory, its names and the bytes of its schema are in memory, and its records are not.
 /// Contracts see the file, and what it has beside its records.
 #[derive(Drop)]
 pub struct Component<F: Frozen> {
@@ -188,11 +189,19 @@ impl<F: Frozen> Component<F> {
         &self.loaded.parts.names
     }
 
-    /// Its schema, borrowed.
-    pub fn schema(&self) -> &Schema
-        ensures { result.now ≡ self.now.index.schema }
+    /// Its schema, read of the bytes that are kept of it. Makes no read of the file. Errs only for want of memory.
+    pub fn schema(&self, alloc: Global) -> Result<Schema, Memory>
+        ensures { IfOk result (λ schema. schema ≡ self.now.index.schema) }
     {
-        &self.loaded.parts.schema
+        let parts = &self.loaded.parts;
+        parts.schema.read(alloc, parts.names.len())
+    }
+
+    /// How many documents its schema counts. Takes no memory.
+    pub fn documents(&self) -> u64
+        ensures { result ≡ documents_of self.now.index.schema }
+    {
+        self.loaded.parts.schema.documents()
     }
 
     /// Where the names begin.

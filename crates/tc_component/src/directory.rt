@@ -39,7 +39,8 @@ impl Model for Directory {
 }
 
 impl Directory {
-    /// The directory of these sizes that the first bytes are. Takes no memory: the bytes stay where they were read.
+    /// The directory of these sizes that the first bytes are. Takes no memory: the bytes stay where they were read, and the room
+    /// behind them is given back.
     pub(crate) fn of(sizes: Sizes, mut bytes: Vec<u8>, marks: Vec<u64>) -> Directory
         requires short { sizes.records < number_end }
         requires within { sizes.entries * slot_size ≤ length bytes.items }
@@ -48,6 +49,7 @@ impl Directory {
     {
         let count = sizes.entries as usize;
         bytes.truncate(count * SLOT_LEN);
+        bytes.shrink_to_fit();
         Directory {
             count,
             bytes,

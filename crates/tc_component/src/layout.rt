@@ -19,7 +19,7 @@ pub(crate) const SLOT_LEN: usize = 12;
 
 /// In memory, so many entries of a directory stand between two marks. The fewer, the shorter is the walk to where a record
 /// begins; a mark has eight bytes.
-pub(crate) const MARK_STEP: usize = 16;
+pub(crate) const MARK_STEP: usize = 8;
 
 /// Records are written in pieces of at least so many bytes, but for the last.
 pub(crate) const PIECE_LEN: usize = 65_536;

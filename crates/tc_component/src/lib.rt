@@ -8,6 +8,7 @@ mod directory;
 mod fetching;
 mod found;
 mod head;
+mod kept_schema;
 mod law;
 mod layout;
 mod loading;

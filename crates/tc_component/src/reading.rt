@@ -15,6 +15,7 @@ ghost use Rattle.tc_component.specs.Reading.{version_told, is_named, directory_r
 
 use crate::directory::{Directory, marks_in};
 use crate::head::{Head, Sizes, head_in, is_named_by, len_of_file};
+use crate::kept_schema::KeptSchema;
 use crate::layout::{HEAD_LEN, HEAD_PLACE, RECORDS_PLACE, SLOT_LEN};
 use std::alloc::Global;
 use tc_names::{Names, NamesFault};
@@ -26,7 +27,7 @@ use tc_store::{FileName, Frozen, ReadFault, bytes_of, damaged};
 pub(crate) struct Parts {
     pub directory: Directory,
     pub names: Names,
-    pub schema: Schema,
+    pub schema: KeptSchema,
 }
 
 /// The bytes that stand where the header has its place.
@@ -149,12 +150,12 @@ fn judged_schema_in(
     place: u64,
     names: u32,
     counted: &[u8],
-) -> Result<Schema, ReadFault>
+) -> Result<KeptSchema, ReadFault>
     ensures judged { Judges (λ schema. schema) result (or_damage (read_schema names counted.now) (a_damage place counted.now)) }
     ensures no_disk { IsNoDisk result }
 {
     match Schema::from_bytes(alloc, counted, names) {
-        Ok(schema) => Ok(schema),
+        Ok(schema) => Ok(KeptSchema::of(alloc, &schema, counted)?),
         Err(SchemaFault::NotASchema) => Err(damaged(alloc, place as usize, counted)),
         Err(SchemaFault::Memory) => Err(ReadFault::Memory),
     }
