@@ -65,12 +65,12 @@ pub fn flush_inputs<F: Frozen>(
     })
 }
 
-/// A copy of the schema of the newest component.
+/// The schema of the newest component. Errs only for want of memory.
 fn schema_of_newest<F: Frozen>(alloc: Global, list: &ComponentList<F>) -> Result<Schema, Memory>
     ensures { IfOk result (λ schema. schema ≡ newest_schema nothing list.now) }
 {
     match list.as_slice().split_last() {
-        Some((newest, _older)) => newest.schema().copy(alloc),
+        Some((newest, _older)) => newest.schema(alloc),
         None => Ok(Schema::empty(alloc)),
     }
 }

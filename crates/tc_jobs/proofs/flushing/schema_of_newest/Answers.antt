@@ -8,6 +8,6 @@ use Rattle.tc_jobs.proofs.flushing.schema_of_newest.Goals as goal
 
 pub returns-in-Some : goal.returns-in-Some
 returns-in-Some g c =
-    let here = c.schema.ensures ∙ ap (λ m. m.index.schema) c.deref.ensures in
+    let here = ap (λ m. m.index.schema) c.deref.ensures in
     let last = last_schema arc_value c.as_slice.result.now c.in-Some._older.now c.in-Some.newest.now c.in-Some.ensures.cases.0 in
-    subst (λ s. IfOk c.copy.result (λ copied. copied ≡ s)) (here ∙ sym last ∙ ap (newest_schema nothing) c.as_slice.ensures.all) c.copy.ensures
+    subst (λ s. IfOk c.schema.result (λ schema. schema ≡ s)) (here ∙ sym last ∙ ap (newest_schema nothing) c.as_slice.ensures.all) c.schema.ensures
