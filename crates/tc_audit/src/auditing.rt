@@ -172,12 +172,8 @@ fn judge_schema<F: Frozen>(
     if is_full(recount.schema.documents()) {
         return Err(Stop::Wrong(Wrong::Documents { component: number }));
     }
-    let found = first_difference(
-        alloc,
-        component.schema(),
-        &recount.schema,
-        component.names(),
-    )?;
+    let kept = component.schema(alloc)?;
+    let found = first_difference(alloc, &kept, &recount.schema, component.names())?;
     match found {
         None => Ok(recount.into_schema()),
         Some(first) => Err(Stop::Wrong(Wrong::Count {

@@ -9,7 +9,7 @@ use Rattle.tc_audit.proofs.Rooms.{below}
 use Rattle.tc_audit.proofs.auditing.judge_schema.Goals as goal
 
 pub first_difference-requires-clause-kept : goal.first_difference-requires-clause-kept
-first_difference-requires-clause-kept g c = rw (c.names.ensures, c.schema.ensures) c.file_len-lawful.ensures.lawful.schema.canonical
+first_difference-requires-clause-kept g c = rw (c.names.ensures, c.in_ok-kept.ensures) c.file_len-lawful.ensures.lawful.schema.canonical
 
 pub first_difference-requires-clause-counted : goal.first_difference-requires-clause-counted
 first_difference-requires-clause-counted g c = rw c.names.ensures c.requires.canonical
@@ -19,8 +19,8 @@ returns-then-is_full-clause-wrong g c = (refl, inr (subst (λ n. 2 ^ 32 ≤ n) c
 
 pub returns-in-None-clause-same : goal.returns-in-None-clause-same
 returns-in-None-clause-same g c =
-    let same = subst (λ o. IfNone o (c.schema.result.now ≡ c.args.recount.schema)) c.in-None.is c.in_ok-found.ensures.none in
-    (c.into_schema.ensures, c.into_schema.ensures ∙ sym same ∙ c.schema.ensures)
+    let same = subst (λ o. IfNone o (c.in_ok-kept.kept ≡ c.args.recount.schema)) c.in-None.is c.in_ok-found.ensures.none in
+    (c.into_schema.ensures, c.into_schema.ensures ∙ sym same ∙ c.in_ok-kept.ensures)
 
 pub returns-in-None-clause-few : goal.returns-in-None-clause-few
 returns-in-None-clause-few g c =
@@ -34,6 +34,6 @@ returns-in-Some-clause-wrong g c =
       refl,
       c.requires.few,
       subst (λ n. n < 2 ^ 32) c.documents.ensures short,
-      rw (← c.names.ensures, ← c.schema.ensures)
-          (subst (λ o. IfSome o (λ x. (docs : List Document) → StandsFor c.names.result.now c.args.recount.schema docs → IsFirstDifference c.names.result.now c.schema.result.now docs (found_meant x))) c.in-Some.is c.in_ok-found.ensures.documents),
+      rw (← c.names.ensures, ← c.in_ok-kept.ensures)
+          (subst (λ o. IfSome o (λ x. (docs : List Document) → StandsFor c.names.result.now c.args.recount.schema docs → IsFirstDifference c.names.result.now c.in_ok-kept.kept docs (found_meant x))) c.in-Some.is c.in_ok-found.ensures.documents),
     )
