@@ -37,7 +37,8 @@ impl<S: Store> Part<S> {
             return text_of(alloc, &nothing, &names);
         }
         let newest = self.list.component_at(count - 1);
-        text_of(alloc, newest.schema(), newest.names())
+        let schema = newest.schema(alloc)?;
+        text_of(alloc, &schema, newest.names())
     }
 }
 

@@ -165,7 +165,7 @@ fn documents_in<F: Frozen>(list: &ComponentList<F>) -> u64
     if count == 0 {
         return 0;
     }
-    list.component_at(count - 1).schema().documents()
+    list.component_at(count - 1).documents()
 }
 
 /// The generation behind that of the newest component.

@@ -40,8 +40,8 @@ returns-clause-documents g c =
     let newest = newest_at content list (c.len-count.result - 1) c.component_at-newest.result.now c.component_at-newest.ensures (omega (arith, c.len-count.ensures, c.if-count-eq0.false)) in
     rw (← c.self.view_is) λ p is.
     let docs = values_in (live p.list) in
-    let stands = subst (λ d. StandsFor (names_by (newest_in content list)) d docs) (ap schema_by newest ∙ sym c.schema.ensures) (newest_stands _ p is) in
-    if_ok_then c.text_of-2.result _ _ (λ text _ of. of docs (subst (λ ns. StandsFor ns c.schema.result.now docs) (ap names_by newest ∙ sym c.names.ensures) stands)) c.text_of-2.ensures.documents
+    let stands = subst (λ d. StandsFor (names_by (newest_in content list)) d docs) (ap schema_by newest ∙ sym c.in_ok-schema.ensures) (newest_stands _ p is) in
+    if_ok_then c.text_of-2.result _ _ (λ text _ of. of docs (subst (λ ns. StandsFor ns c.in_ok-schema.schema docs) (ap names_by newest ∙ sym c.names.ensures) stands)) c.text_of-2.ensures.documents
 
 pub returns-clause-tree : goal.returns-clause-tree
 returns-clause-tree g c =
@@ -50,5 +50,5 @@ returns-clause-tree g c =
     let newest = newest_at content list (c.len-count.result - 1) c.component_at-newest.result.now c.component_at-newest.ensures (omega (arith, c.len-count.ensures, c.if-count-eq0.false)) in
     rw (← c.self.view_is)
     (if_ok_then c.text_of-2.result _ _
-    (λ text _ is. is ∙ ap (λ ns. compact_text (tree_text ns (schema_tree c.schema.result.now))) (c.names.ensures ∙ sym (ap names_by newest)) ∙ ap (λ d. compact_text (tree_text (names_by (newest_in content list)) (schema_tree d))) (c.schema.ensures ∙ sym (ap schema_by newest)))
+    (λ text _ is. is ∙ ap (λ ns. compact_text (tree_text ns (schema_tree c.in_ok-schema.schema))) (c.names.ensures ∙ sym (ap names_by newest)) ∙ ap (λ d. compact_text (tree_text (names_by (newest_in content list)) (schema_tree d))) (c.in_ok-schema.ensures ∙ sym (ap schema_by newest)))
     c.text_of-2.ensures.tree)
