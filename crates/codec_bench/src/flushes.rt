@@ -44,7 +44,7 @@ impl Below {
     pub(crate) fn behind(alloc: Global, component: &Component<SilentFile>) -> Result<Below> {
         Ok(Below {
             names: component.names().copy()?,
-            schema: component.schema().copy(alloc)?,
+            schema: component.schema(alloc)?,
             next: component.head().to.saturating_add(1),
         })
     }

@@ -81,7 +81,7 @@ pub(crate) fn shown(alloc: Global, component: &Component<MemFrozen>) -> Option<S
     }
     let (names_at, schema_at) = (component.names_at(), component.schema_at());
     let names = component.names().to_bytes(alloc).ok()?;
-    let schema = component.schema().to_bytes(alloc).ok()?;
+    let schema = component.schema(alloc).ok()?.to_bytes(alloc).ok()?;
     let (names, schema) = (
         hex::encode(alloc, names.as_slice()).ok()?,
         hex::encode(alloc, schema.as_slice()).ok()?,
