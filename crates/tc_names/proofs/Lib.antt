@@ -1,2 +1,6 @@
-pub mod Held
+pub mod Begins
+pub mod Cuts
+pub mod Found
+pub mod Links
+pub mod LongestName
 pub mod Spelling

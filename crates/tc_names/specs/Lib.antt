@@ -1,2 +1,4 @@
+pub mod Cutting
+pub mod Linking
 pub mod Longest
 pub mod Section

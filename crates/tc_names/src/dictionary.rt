@@ -1,6 +1,7 @@
 //! The dictionary: the number of a name, and the name of a number.
 
-use indexmap::IndexSet;
+use crate::index::Index;
+use crate::texts::Texts;
 use std::alloc::Global;
 use std::marker::Model;
 use tc_bytes::Memory;
@@ -8,34 +9,38 @@ use tc_bytes::Memory;
 /// Names with their numbers, which run from 0 on without gaps. Names are only ever added. Contracts see the list of
 /// the names, each as its bytes; a name is any text of fewer than 2^32 bytes, and there are fewer than 2^32.
 pub struct Names {
-    names: IndexSet<String>,
+    texts: Texts,
+    index: Index,
     longest: u32,
     alloc: Global,
 }
 
 impl Model for Names {
-    ghost use Rattle.std.specs.Prelude.{List, ℕ, map, string_bytes};
+    ghost use Rattle.std.specs.Prelude.{List, ℕ};
 
     ghost Value = { List (List ℕ) };
 
-    ghost view = { λ n. map string_bytes n.names.keys };
+    ghost view = { λ n. n.texts };
 
     ghost use Rattle.std.specs.Prelude.{◌≡◌};
     ghost use Rattle.tc_model.specs.Dictionary.{IsDictionary};
+    ghost use Rattle.tc_names.specs.Linking.{IsIndex};
     ghost use Rattle.tc_names.specs.Longest.{longest_of};
 
-    ghost invariant = { λ n. IsDictionary (map string_bytes n.names.keys) × (n.longest ≡ longest_of (map string_bytes n.names.keys)) };
+    ghost invariant = { λ n. IsDictionary n.texts × (IsIndex n.index.heads.items n.index.links.items n.texts × (n.longest ≡ longest_of n.texts)) };
 }
 
 impl Drop for Names {
     /// One call, so that whoever drops a dictionary sees none of its fields.
     fn drop(self) {
         let Names {
-            names,
+            texts,
+            index,
             longest: _,
             alloc: _,
         } = self;
-        drop(names);
+        drop(texts);
+        drop(index);
     }
 }
 
@@ -49,10 +54,23 @@ impl Names {
         ensures empty { result ≡ [] }
     {
         Names {
-            names: IndexSet::new(alloc),
+            texts: Texts::new(alloc),
+            index: Index::new(alloc),
             longest: 0,
             alloc,
         }
+    }
+
+    /// No names, with room for so many of so many bytes together. Errs only for want of memory.
+    pub(crate) fn with_room(alloc: Global, count: usize, bytes: usize) -> Result<Names, Memory>
+        ensures empty { IfOk result (λ names. names ≡ []) }
+    {
+        Ok(Names {
+            texts: Texts::with_room(alloc, count, bytes)?,
+            index: Index::with_places(alloc, count)?,
+            longest: 0,
+            alloc,
+        })
     }
 
     /// How many names there are.
@@ -60,7 +78,7 @@ impl Names {
         ensures count { result ≡ length self.now }
         ensures dictionary { IsDictionary self.now }
     {
-        self.names.len() as u32
+        self.texts.len() as u32
     }
 
     /// How many bytes the longest name has, and 0 where there is none. It is kept, so that no name is looked at.
@@ -74,27 +92,24 @@ impl Names {
     pub fn id_of(&self, name: &str) -> Option<u32>
         ensures number { result ≡ number_of self.now name.now }
     {
-        match self.names.get_index_of(name) {
-            Some(place) => Some(place as u32),
-            None => None,
-        }
+        self.index.find(&self.texts, name.as_bytes())
     }
 
     /// The name of a number. `None` comes exactly where no name has the number.
     pub fn name_of(&self, id: u32) -> Option<&str>
         ensures name { option_map (λ name. name.now) result ≡ slice_get self.now id }
     {
-        match self.names.get_index(id as usize) {
-            Some(name) => Some(name.as_str()),
-            None => None,
+        if id as usize >= self.texts.len() {
+            return None;
         }
+        Some(unsafe { str::from_utf8_unchecked(self.texts.at(id as usize)) })
     }
 
     /// Whether these names begin with the older ones, so that each of those has the same number here.
     pub fn extends(&self, older: &Names) -> bool
         ensures prefix { IsTrue result ↔ Extends self.now older.now }
     {
-        self.names.as_slice().starts_with(older.names.as_slice())
+        self.texts.starts_with(&older.texts)
     }
 
     /// The number of a name, which is added at the end if it is new. Errs only for want of memory.
@@ -111,8 +126,8 @@ impl Names {
             Some(id) => Ok(id),
             None => {
                 let id = self.len();
-                let held = String::from_str(self.alloc, name)?;
-                self.names.insert(held)?;
+                self.index
+                    .add(self.alloc, &mut self.texts, name.as_bytes())?;
                 self.longest = self.longest.max(name.len() as u32);
                 Ok(id)
             }
@@ -124,7 +139,8 @@ impl Names {
         ensures same { IfOk result (λ copied. copied ≡ self.now) }
     {
         Ok(Names {
-            names: self.names.clone()?,
+            texts: self.texts.copy(self.alloc)?,
+            index: self.index.copy(self.alloc)?,
             longest: self.longest,
             alloc: self.alloc,
         })

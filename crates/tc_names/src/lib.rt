@@ -3,7 +3,9 @@
 
 mod dictionary;
 mod fault;
+mod index;
 mod section;
+mod texts;
 
 pub use dictionary::Names;
 pub use fault::NamesFault;

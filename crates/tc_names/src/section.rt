@@ -51,7 +51,9 @@ fn read(alloc: Global, bytes: &[u8]) -> Result<Names, NamesFault>
 fn names_in(alloc: Global, count: u32, bytes: &[u8]) -> Result<(Names, &[u8]), NamesFault>
     ensures { Gives (λ x. (x.0, x.1.now)) NamesFault.NotNames result (elements_at is_new name_at count [] bytes.now) }
 {
-    let mut names = Names::new(alloc);
+    // A name takes four bytes at least, so a count that bytes cannot hold asks for no more room than these do.
+    let room = (count as usize).min(bytes.len() / 4);
+    let mut names = Names::with_room(alloc, room, bytes.len() - 4 * room)?;
     let mut rest = bytes;
     for number in 0..count {
         let (name, after) = name_in(rest).ok_or(NamesFault::NotNames)?;

@@ -12,7 +12,7 @@ returns-in_err-name c =
     let gone = c.in_err-name.ensures.ok_part in
     let read : name_at c.loop-number.rest.now ≡ None = sym (rw gone at c.name_in.ensures.name) in
     let left : 0 < c.args.count - c.loop-number.number = let more = c.loop-number-test.true in omega arith in
-    let p = err_from_is_err_and c.from_residual.result c.from_residual.ensures.1 in
+    let p = err_from_is_err_and c.from_residual-in_err-name.result c.from_residual-in_err-name.ensures.1 in
     rw p.1 (λ refused. sym c.loop-number.invariant.reads ∙ elements_none is_new name_at (c.args.count - c.loop-number.number) c.loop-number.names c.loop-number.rest.now left read)
 
 pub returns-then-branch-number : goal.returns-then-branch-number
