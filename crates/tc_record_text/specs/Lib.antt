@@ -1,3 +1,4 @@
+pub mod KeptLabels
 pub mod Left
 pub mod Listed
 pub mod Skipped

@@ -9,8 +9,10 @@ ghost use Rattle.tc_model.specs.Tree.{members_of};
 ghost use Rattle.tc_request_model.specs.Reply.{with_id, count};
 ghost use Rattle.tc_record.specs.Building.{innermost, member_in, document_read};
 ghost use Rattle.tc_compact.specs.Meant.{levels_meant, tokens_meant, IsRecordUnder};
+ghost use Rattle.tc_record_text.specs.KeptLabels.{AreLabels};
 
 use crate::labels::{closes, name_of};
+use crate::memo::LabelMemo;
 use crate::skipping::skip;
 use crate::values::{put_members, put_value};
 use std::alloc::{AllocError, Global};
@@ -69,16 +71,19 @@ pub fn put_document(
 {
     document_meant();
     let _bytes = of.bytes();
-    put_tokens(of.cursor(), names, key, out)
+    let mut memo = LabelMemo::new(*out.allocator(), of.token_count());
+    put_tokens(of.cursor(), names, &mut memo, key, out)
 }
 
 // The text of the value whose tokens these are.
 fn put_tokens(
     tokens: Cursor<'_>,
     names: &Names,
+    memo: &mut LabelMemo,
     key: u64,
     out: &mut Vec<u8>,
 ) -> Result<(), AllocError>
+    requires { AreLabels names.now memo.old.kept.items }
     ensures { OnOk result (IfSome (document_read (tokens_meant names.now tokens.entry)) (λ d. out.new.items ≡ out.old.items ++ compact_text (with_id key d))) }
 {
     let mut cursor = tokens;
@@ -88,9 +93,9 @@ fn put_tokens(
     match token.value {
         Piece::Object => {
             put_mark(b'{', out)?;
-            put_members_with_key(&mut cursor, names, key, out)
+            put_members_with_key(&mut cursor, names, memo, key, out)
         }
-        _other => put_value(&mut cursor, token, names, out),
+        _other => put_value(&mut cursor, token, names, memo, out),
     }
 }
 
@@ -98,9 +103,11 @@ fn put_tokens(
 fn put_members_with_key(
     cursor: &mut Cursor<'_>,
     names: &Names,
+    memo: &mut LabelMemo,
     key: u64,
     out: &mut Vec<u8>,
 ) -> Result<(), AllocError>
+    requires { AreLabels names.now memo.old.kept.items }
     ensures { OnOk result (out.new.items ≡ out.old.items ++ members_text false (put (codes "id") (count key) (members_data (members_of (map member_in (innermost (levels_meant names.now cursor.old))))))) }
 {
     let mut later = false;
@@ -114,17 +121,17 @@ fn put_members_with_key(
             Ordering::Less => {
                 put_key(later, key, out)?;
                 put_name(true, name, out)?;
-                put_value(cursor, token, names, out)?;
-                return put_members(true, cursor, names, out);
+                put_value(cursor, token, names, memo, out)?;
+                return put_members(true, cursor, names, memo, out);
             }
             Ordering::Equal => {
                 put_key(later, key, out)?;
                 skip(cursor, token.value);
-                return put_members(true, cursor, names, out);
+                return put_members(true, cursor, names, memo, out);
             }
             Ordering::Greater => {
                 put_name(later, name, out)?;
-                put_value(cursor, token, names, out)?;
+                put_value(cursor, token, names, memo, out)?;
             }
         }
         later = true;

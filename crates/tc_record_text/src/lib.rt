@@ -3,6 +3,7 @@
 
 mod keyed;
 mod labels;
+mod memo;
 mod reaching;
 mod rows;
 mod skipping;
@@ -12,4 +13,3 @@ pub use keyed::{put_document, text_of_document};
 pub use labels::{closes, has_name, name_of};
 pub use rows::put_row;
 pub use skipping::{skip, skip_to_close};
-pub use values::put_value;

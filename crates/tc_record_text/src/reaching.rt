@@ -7,11 +7,13 @@ ghost use Rattle.tc_record.specs.WalkView.{piece_of};
 ghost use Rattle.tc_record.specs.Building.{outer, value_read, document_read};
 ghost use Rattle.tc_compact.specs.Meant.{levels_meant, tokens_meant};
 ghost use Rattle.tc_request_model.specs.Paths.{reached, hopped};
+ghost use Rattle.tc_record_text.specs.KeptLabels.{AreLabels};
 ghost use Rattle.tc_record_text.specs.Left.{array_left, object_left, items_left, members_left};
 ghost use Rattle.tc_record_text.specs.Listed.{listed};
 ghost use Rattle.tc_record_text.specs.Skipped.{is_close};
 
 use crate::labels::{closes, has_name};
+use crate::memo::LabelMemo;
 use crate::skipping::{skip, skip_to_close};
 use crate::values::put_value;
 use std::alloc::AllocError;
@@ -24,15 +26,17 @@ use tc_text::put_mark;
 pub(crate) fn put_reached(
     tokens: Cursor<'_>,
     names: &Names,
+    memo: &mut LabelMemo,
     hops: &[Hop],
     out: &mut Vec<u8>,
 ) -> Result<(), AllocError>
+    requires { AreLabels names.now memo.old.kept.items }
     ensures { OnOk result (out.new.items ≡ out.old.items ++ listed (flat_map (reached (map hop_of hops.now)) (option_to_list (document_read (tokens_meant names.now tokens.entry))))) }
 {
     let mut cursor = tokens;
     if let Some(token) = cursor.next() {
         if !closes(token.value) {
-            put_from(&mut cursor, token, names, hops, out)?;
+            put_from(&mut cursor, token, names, memo, hops, out)?;
         }
     }
     Ok(())
@@ -44,20 +48,23 @@ fn put_from(
     cursor: &mut Cursor<'_>,
     token: Token<'_>,
     names: &Names,
+    memo: &mut LabelMemo,
     hops: &[Hop],
     out: &mut Vec<u8>,
 ) -> Result<(), AllocError>
-    requires { is_close (piece_of token.value) ≡ false }
+    requires value { is_close (piece_of token.value) ≡ false }
+    requires labels { AreLabels names.now memo.old.kept.items }
     ensures all { OnOk result (out.new.items ≡ out.old.items ++ listed (flat_map (reached (map hop_of hops.now)) (option_to_list (value_read (piece_of token.entry.value) (levels_meant names.now cursor.old)).0))) }
     ensures behind { OnOk result (levels_meant names.now cursor.new ≡ (value_read (piece_of token.entry.value) (levels_meant names.now cursor.old)).1) }
     ensures shorter { length cursor.new ≤ length cursor.old }
+    ensures labels { AreLabels names.now memo.new.kept.items }
 {
     match hops {
         [] => {
-            put_value(cursor, token, names, out)?;
+            put_value(cursor, token, names, memo, out)?;
             put_mark(b',', out)
         }
-        [hop, rest @ ..] => put_hopped(cursor, token.value, names, hop, rest, out),
+        [hop, rest @ ..] => put_hopped(cursor, token.value, names, memo, hop, rest, out),
     }
 }
 
@@ -67,17 +74,20 @@ fn put_hopped(
     cursor: &mut Cursor<'_>,
     piece: Piece<'_>,
     names: &Names,
+    memo: &mut LabelMemo,
     hop: &Hop,
     rest: &[Hop],
     out: &mut Vec<u8>,
 ) -> Result<(), AllocError>
+    requires { AreLabels names.now memo.old.kept.items }
     ensures all { OnOk result (out.new.items ≡ out.old.items ++ listed (flat_map (reached (hop_of hop.now ∷ map hop_of rest.now)) (option_to_list (value_read (piece_of piece.entry) (levels_meant names.now cursor.old)).0))) }
     ensures behind { OnOk result (levels_meant names.now cursor.new ≡ (value_read (piece_of piece.entry) (levels_meant names.now cursor.old)).1) }
     ensures shorter { length cursor.new ≤ length cursor.old }
+    ensures labels { AreLabels names.now memo.new.kept.items }
 {
     match piece {
-        Piece::Array => put_in_array(cursor, names, hop, rest, out),
-        Piece::Object => put_in_object(cursor, names, hop, rest, out),
+        Piece::Array => put_in_array(cursor, names, memo, hop, rest, out),
+        Piece::Object => put_in_object(cursor, names, memo, hop, rest, out),
         _scalar => Ok(()),
     }
 }
@@ -87,13 +97,16 @@ fn put_hopped(
 fn put_in_array(
     cursor: &mut Cursor<'_>,
     names: &Names,
+    memo: &mut LabelMemo,
     hop: &Hop,
     rest: &[Hop],
     out: &mut Vec<u8>,
 ) -> Result<(), AllocError>
+    requires { AreLabels names.now memo.old.kept.items }
     ensures all { OnOk result (out.new.items ≡ out.old.items ++ listed (flat_map (reached (map hop_of rest.now)) (hopped (hop_of hop.now) (array_left (levels_meant names.now cursor.old))))) }
     ensures behind { OnOk result (levels_meant names.now cursor.new ≡ outer (levels_meant names.now cursor.old)) }
     ensures shorter { length cursor.new ≤ length cursor.old }
+    ensures labels { AreLabels names.now memo.new.kept.items }
 {
     match hop {
         Hop::Name(_) => {
@@ -104,9 +117,9 @@ fn put_in_array(
             skip_to_close(cursor);
             Ok(())
         } else {
-            put_in_item(cursor, names, *place as u64, rest, out)
+            put_in_item(cursor, names, memo, *place as u64, rest, out)
         },
-        Hop::Any => put_in_each(cursor, names, rest, out),
+        Hop::Any => put_in_each(cursor, names, memo, rest, out),
     }
 }
 
@@ -115,16 +128,19 @@ fn put_in_array(
 fn put_in_object(
     cursor: &mut Cursor<'_>,
     names: &Names,
+    memo: &mut LabelMemo,
     hop: &Hop,
     rest: &[Hop],
     out: &mut Vec<u8>,
 ) -> Result<(), AllocError>
+    requires { AreLabels names.now memo.old.kept.items }
     ensures all { OnOk result (out.new.items ≡ out.old.items ++ listed (flat_map (reached (map hop_of rest.now)) (hopped (hop_of hop.now) (object_left (levels_meant names.now cursor.old))))) }
     ensures behind { OnOk result (levels_meant names.now cursor.new ≡ outer (levels_meant names.now cursor.old)) }
     ensures shorter { length cursor.new ≤ length cursor.old }
+    ensures labels { AreLabels names.now memo.new.kept.items }
 {
     match hop {
-        Hop::Name(name) => put_in_member(cursor, names, name.as_str(), rest, out),
+        Hop::Name(name) => put_in_member(cursor, names, memo, name.as_str(), rest, out),
         Hop::At(_) => {
             skip_to_close(cursor);
             Ok(())
@@ -141,13 +157,16 @@ fn put_in_object(
 fn put_in_item(
     cursor: &mut Cursor<'_>,
     names: &Names,
+    memo: &mut LabelMemo,
     place: u64,
     hops: &[Hop],
     out: &mut Vec<u8>,
 ) -> Result<(), AllocError>
+    requires { AreLabels names.now memo.old.kept.items }
     ensures all { OnOk result (out.new.items ≡ out.old.items ++ listed (flat_map (reached (map hop_of hops.now)) (option_to_list (slice_get (items_left (levels_meant names.now cursor.old)) place)))) }
     ensures behind { OnOk result (levels_meant names.now cursor.new ≡ outer (levels_meant names.now cursor.old)) }
     ensures shorter { length cursor.new ≤ length cursor.old }
+    ensures labels { AreLabels names.now memo.new.kept.items }
 {
     let mut left = place;
     while let Some(token) = cursor.next() {
@@ -155,7 +174,7 @@ fn put_in_item(
             return Ok(());
         }
         if left == 0 {
-            put_from(cursor, token, names, hops, out)?;
+            put_from(cursor, token, names, memo, hops, out)?;
             skip_to_close(cursor);
             return Ok(());
         }
@@ -170,18 +189,24 @@ fn put_in_item(
 fn put_in_each(
     cursor: &mut Cursor<'_>,
     names: &Names,
+    memo: &mut LabelMemo,
     hops: &[Hop],
     out: &mut Vec<u8>,
 ) -> Result<(), AllocError>
+    requires { AreLabels names.now memo.old.kept.items }
     ensures all { OnOk result (out.new.items ≡ out.old.items ++ listed (flat_map (reached (map hop_of hops.now)) (items_left (levels_meant names.now cursor.old)))) }
     ensures behind { OnOk result (levels_meant names.now cursor.new ≡ outer (levels_meant names.now cursor.old)) }
     ensures shorter { length cursor.new ≤ length cursor.old }
+    ensures labels { AreLabels names.now memo.new.kept.items }
 {
+    let within = memo.repeats;
     while let Some(token) = cursor.next() {
         if closes(token.value) {
+            memo.repeats = within;
             return Ok(());
         }
-        put_from(cursor, token, names, hops, out)?;
+        put_from(cursor, token, names, memo, hops, out)?;
+        memo.repeats = true;
     }
     Ok(())
 }
@@ -191,20 +216,23 @@ fn put_in_each(
 fn put_in_member(
     cursor: &mut Cursor<'_>,
     names: &Names,
+    memo: &mut LabelMemo,
     name: &str,
     hops: &[Hop],
     out: &mut Vec<u8>,
 ) -> Result<(), AllocError>
+    requires { AreLabels names.now memo.old.kept.items }
     ensures all { OnOk result (out.new.items ≡ out.old.items ++ listed (flat_map (reached (map hop_of hops.now)) (option_to_list (member_at name.now (members_left (levels_meant names.now cursor.old)))))) }
     ensures behind { OnOk result (levels_meant names.now cursor.new ≡ outer (levels_meant names.now cursor.old)) }
     ensures shorter { length cursor.new ≤ length cursor.old }
+    ensures labels { AreLabels names.now memo.new.kept.items }
 {
     while let Some(token) = cursor.next() {
         if closes(token.value) {
             return Ok(());
         }
         if has_name(token.label, names, name) {
-            put_from(cursor, token, names, hops, out)?;
+            put_from(cursor, token, names, memo, hops, out)?;
             skip_to_close(cursor);
             return Ok(());
         }

@@ -7,8 +7,10 @@ ghost use Rattle.tc_request_model.specs.Rows.{row_of};
 ghost use Rattle.tc_record.specs.Building.{document_read};
 ghost use Rattle.tc_compact.specs.Meant.{tokens_meant, IsRecordUnder};
 ghost use Rattle.tc_command.specs.Asks.{hop_of};
+ghost use Rattle.tc_record_text.specs.KeptLabels.{AreLabels};
 ghost use Rattle.tc_record_text.specs.Listed.{comma, row_front, row_end, row_texts};
 
+use crate::memo::LabelMemo;
 use crate::reaching::put_reached;
 use std::alloc::AllocError;
 use tc_command::{Hop, PathExpr};
@@ -30,23 +32,26 @@ pub fn put_row(
 {
     document_meant();
     let _bytes = of.bytes();
-    put_row_of_tokens(of.cursor(), names, path.as_slice(), key, out)
+    let mut memo = LabelMemo::new(*out.allocator(), of.token_count());
+    put_row_of_tokens(of.cursor(), names, &mut memo, path.as_slice(), key, out)
 }
 
 // The row of the value whose tokens these are.
 fn put_row_of_tokens(
     tokens: Cursor<'_>,
     names: &Names,
+    memo: &mut LabelMemo,
     hops: &[Hop],
     key: u64,
     out: &mut Vec<u8>,
 ) -> Result<(), AllocError>
+    requires { AreLabels names.now memo.old.kept.items }
     ensures { OnOk result (out.new.items ≡ out.old.items ++ row_texts (row_of None key (flat_map (reached (map hop_of hops.now)) (option_to_list (document_read (tokens_meant names.now tokens.entry)))))) }
 {
     let start = out.len();
     put_front(key, out)?;
     let begun = out.as_slice().len();
-    put_reached(tokens, names, hops, out)?;
+    put_reached(tokens, names, memo, hops, out)?;
     if out.as_slice().len() == begun {
         out.truncate(start);
         return Ok(());

@@ -7,25 +7,30 @@ ghost use Rattle.tc_model.specs.Tree.{items_of, members_of};
 ghost use Rattle.tc_record.specs.WalkView.{piece_of};
 ghost use Rattle.tc_record.specs.Building.{innermost, outer, value_in, member_in, value_read};
 ghost use Rattle.tc_compact.specs.Meant.{levels_meant};
+ghost use Rattle.tc_record_text.specs.KeptLabels.{AreLabels};
 
-use crate::labels::{closes, name_of};
+use crate::labels::closes;
+use crate::memo::{LabelMemo, put_label};
 use std::alloc::AllocError;
 use tc_names::Names;
 use tc_record::{Cursor, Piece, Token};
-use tc_text::{put_bool, put_comma, put_int, put_mark, put_name, put_quoted};
+use tc_text::{put_bool, put_comma, put_int, put_mark, put_quoted};
 
 /// Puts the text of the value that a token is or opens, with what the value holds taken from the cursor, where numbers mean
 /// names of the dictionary. Errs only for want of memory, and then leaves some first part of the text.
 #[cycle(values)]
-pub fn put_value(
+pub(crate) fn put_value(
     cursor: &mut Cursor<'_>,
     token: Token<'_>,
     names: &Names,
+    memo: &mut LabelMemo,
     out: &mut Vec<u8>,
 ) -> Result<(), AllocError>
+    requires { AreLabels names.now memo.old.kept.items }
     ensures text { OnOk result (IfSome (value_read (piece_of token.entry.value) (levels_meant names.now cursor.old)).0 (λ d. out.new.items ≡ out.old.items ++ compact_text (data_of d))) }
     ensures behind { OnOk result (levels_meant names.now cursor.new ≡ (value_read (piece_of token.entry.value) (levels_meant names.now cursor.old)).1) }
     ensures shorter { length cursor.new ≤ length cursor.old }
+    ensures labels { AreLabels names.now memo.new.kept.items }
 {
     match token.value {
         Piece::Null => out.extend_from_slice(b"null"),
@@ -34,11 +39,11 @@ pub fn put_value(
         Piece::Text(value) => put_quoted(value, out),
         Piece::Array => {
             put_mark(b'[', out)?;
-            put_items(cursor, names, out)
+            put_items(cursor, names, memo, out)
         }
         Piece::Object => {
             put_mark(b'{', out)?;
-            put_members(false, cursor, names, out)
+            put_members(false, cursor, names, memo, out)
         }
         Piece::Close => Ok(()),
     }
@@ -46,19 +51,29 @@ pub fn put_value(
 
 // The items up to the close of their array, and its bracket.
 #[cycle(values)]
-fn put_items(cursor: &mut Cursor<'_>, names: &Names, out: &mut Vec<u8>) -> Result<(), AllocError>
+fn put_items(
+    cursor: &mut Cursor<'_>,
+    names: &Names,
+    memo: &mut LabelMemo,
+    out: &mut Vec<u8>,
+) -> Result<(), AllocError>
+    requires { AreLabels names.now memo.old.kept.items }
     ensures text { OnOk result (out.new.items ≡ out.old.items ++ items_text false (items_data (items_of (map value_in (innermost (levels_meant names.now cursor.old)))))) }
     ensures behind { OnOk result (levels_meant names.now cursor.new ≡ outer (levels_meant names.now cursor.old)) }
     ensures shorter { length cursor.new ≤ length cursor.old }
+    ensures labels { AreLabels names.now memo.new.kept.items }
 {
+    let within = memo.repeats;
     let mut later = false;
     while let Some(token) = cursor.next() {
         if closes(token.value) {
+            memo.repeats = within;
             return put_mark(b']', out);
         }
         put_comma(later, out)?;
-        put_value(cursor, token, names, out)?;
+        put_value(cursor, token, names, memo, out)?;
         later = true;
+        memo.repeats = true;
     }
     put_mark(b']', out)
 }
@@ -69,19 +84,22 @@ pub(crate) fn put_members(
     before: bool,
     cursor: &mut Cursor<'_>,
     names: &Names,
+    memo: &mut LabelMemo,
     out: &mut Vec<u8>,
 ) -> Result<(), AllocError>
+    requires { AreLabels names.now memo.old.kept.items }
     ensures text { OnOk result (out.new.items ≡ out.old.items ++ members_text before (members_data (members_of (map member_in (innermost (levels_meant names.now cursor.old)))))) }
     ensures behind { OnOk result (levels_meant names.now cursor.new ≡ outer (levels_meant names.now cursor.old)) }
     ensures shorter { length cursor.new ≤ length cursor.old }
+    ensures labels { AreLabels names.now memo.new.kept.items }
 {
     let mut later = before;
     while let Some(token) = cursor.next() {
         if closes(token.value) {
             return put_mark(b'}', out);
         }
-        put_name(later, name_of(token.label, names), out)?;
-        put_value(cursor, token, names, out)?;
+        put_label(later, token.label, names, memo, out)?;
+        put_value(cursor, token, names, memo, out)?;
         later = true;
     }
     put_mark(b'}', out)

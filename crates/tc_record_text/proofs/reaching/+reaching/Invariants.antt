@@ -4,6 +4,7 @@ use Rattle.tc_command.specs.Asks.{hop_of}
 use Rattle.tc_record.specs.Building.{outer}
 use Rattle.tc_compact.specs.Meant.{levels_meant}
 use Rattle.tc_request_model.specs.Paths.{reached}
+use Rattle.tc_record_text.specs.KeptLabels.{AreLabels}
 use Rattle.tc_record_text.specs.Listed.{listed}
 use Rattle.tc_record_text.specs.Left.{items_left, members_left}
 use Rattle.tc_record_text.proofs.reaching.+reaching.Given as goal
@@ -34,6 +35,7 @@ invariant-put_in_each-loop-token l = record {
   at : l.out.items ++ listed (flat_map (reached (map hop_of l.hops)) (items_left (levels_meant l.names l.cursor))) ≡ l.fn.out.items ++ listed (flat_map (reached (map hop_of l.hops)) (items_left (levels_meant l.names l.fn.cursor)));
   behind : outer (levels_meant l.names l.cursor) ≡ outer (levels_meant l.names l.fn.cursor);
   shorter : length l.cursor ≤ length l.fn.cursor;
+  labels : AreLabels l.names l.memo.kept.items;
 }
 
 abbrev pub decreases-put_in_each-loop-token : goal.decreases-put_in_each-loop-token
@@ -45,6 +47,7 @@ invariant-put_in_item-loop-token l = record {
   same : l.out.items ≡ l.fn.out.items;
   behind : outer (levels_meant l.names l.cursor) ≡ outer (levels_meant l.names l.fn.cursor);
   shorter : length l.cursor ≤ length l.fn.cursor;
+  labels : AreLabels l.names l.memo.kept.items;
 }
 
 abbrev pub decreases-put_in_item-loop-token : goal.decreases-put_in_item-loop-token
@@ -56,6 +59,7 @@ invariant-put_in_member-loop-token l = record {
   same : l.out.items ≡ l.fn.out.items;
   behind : outer (levels_meant l.names l.cursor) ≡ outer (levels_meant l.names l.fn.cursor);
   shorter : length l.cursor ≤ length l.fn.cursor;
+  labels : AreLabels l.names l.memo.kept.items;
 }
 
 abbrev pub decreases-put_in_member-loop-token : goal.decreases-put_in_member-loop-token
