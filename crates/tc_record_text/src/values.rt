@@ -18,7 +18,9 @@ use tc_text::{put_bool, put_comma, put_int, put_mark, put_quoted};
 
 /// Puts the text of the value that a token is or opens, with what the value holds taken from the cursor, where numbers mean
 /// names of the dictionary. Errs only for want of memory, and then leaves some first part of the text.
+// built into those who put values: the token that is handed over, and the call, cost more than most scalars
 #[cycle(values)]
+#[inline(always)]
 pub(crate) fn put_value(
     cursor: &mut Cursor<'_>,
     token: Token<'_>,
