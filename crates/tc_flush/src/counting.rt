@@ -1,6 +1,6 @@
 //! The test whether a table can be flushed.
 
-ghost use Rattle.std.specs.Prelude.{◌≡◌, ◌↔◌, ◌+◌, ◌<◌, ◌^◌, ◌-◌, ◌∷◌, [], All, IfNone, IfOk, IfSome, IsTrue, length, min};
+ghost use Rattle.std.specs.Prelude.{◌≡◌, ◌↔◌, ◌+◌, ◌<◌, ◌^◌, ◌-◌, ◌∷◌, [], All, IfNone, IfOk, IfSome, IsTrue, false, length, min};
 ghost use Rattle.std.specs.Bool.{OnTrue};
 ghost use Rattle.tc_schema_model.specs.Counted.{nothing, total_at, IsCanonical};
 ghost use Rattle.tc_schema_model.specs.Occurrences.{Path};
@@ -45,11 +45,28 @@ pub fn counted(
     if !schema.numbers_below(known) {
         return Ok(false);
     }
+    // a copy of the schema may be the most that a load takes
+    if !keeps_shapes(sealed) {
+        return has_room(alloc, sealed, schema, names);
+    }
     let mut left = schema.copy(alloc)?;
     if !take_if_fits(sealed, names, &mut left) {
         return Ok(false);
     }
     has_room(alloc, sealed, &left, names)
+}
+
+/// Whether a table keeps a shape of what is below.
+fn keeps_shapes(sealed: &Sealed) -> bool
+    ensures { result ≡ false → shapes_kept sealed.now ≡ [] }
+{
+    let mut entries = sealed.entries();
+    while let Some(entry) = entries.next() {
+        if entry.below.is_some() {
+            return true;
+        }
+    }
+    false
 }
 
 /// Takes off the shapes that a table keeps, each once, and answers whether the schema fitted each. Takes no memory.
