@@ -11,7 +11,7 @@ use tc_command::{Ask, Command, PathExpr, parse};
 use tc_compact::document_of;
 use tc_json::text_of;
 use tc_names::Names;
-use tc_path::{ValueRef, first, select};
+use tc_path::{ValueRef, first, reaches, select};
 use tc_record::RecordRef;
 use tc_value::Doc;
 
@@ -63,7 +63,8 @@ fn reached(
     }
 }
 
-// How many values a path reaches, the first one and all of them, with their texts and whether they equal a document.
+// How many values a path reaches, the first one and all of them, with their texts and whether they equal a document, and
+// whether the path reaches that document.
 fn reached_in(
     alloc: Global,
     of: RecordRef<'_>,
@@ -77,9 +78,14 @@ fn reached_in(
     match select(alloc, of.again(), names, path) {
         Ok(values) => {
             let each = texts(alloc, values.as_slice(), names, equal_to)?;
+            let found = if reaches(of.again(), names, path, equal_to) {
+                "reached"
+            } else {
+                "not reached"
+            };
             let first = first_text(alloc, of, names, path, equal_to, doc)?;
             format!(in alloc;
-                "{} first{} all{}",
+                "{} first{} all{}, {found}",
                 values.len(),
                 first.as_str(),
                 each.as_str()
