@@ -1,5 +1,5 @@
 -- The records of the entries of a content.
-use Rattle.std.proofs.Common.{◌≡◌, ◌<◌, ◌≤◌, ◌+◌, ◌^◌, ℕ, true, List, [], ◌∷◌, ◌++◌, None, Some, length, map, refl, sym, ap, subst, arith, inl, inr, length-append, Option}
+use Rattle.std.proofs.Common.{◌≡◌, ◌<◌, ◌≤◌, ◌^◌, ℕ, true, List, [], ◌∷◌, ◌++◌, None, Some, length, map, refl, sym, ap, subst, arith, inl, inr, length-append, Option}
 use Rattle.std.specs.Prelude.{All, option_map, option_to_list}
 use Rattle.std.specs.List.{AllByRecursion}
 use Rattle.std.proofs.lemmas.List.{length-map}

@@ -4,6 +4,7 @@ pub mod Reading
 pub mod Found
 pub mod Building
 pub mod Columns
+pub mod Counts
 pub mod Loading
 pub mod Fetching
 pub mod Spans

@@ -8,10 +8,13 @@ ghost use Rattle.tc_store.specs.Gate.{opened, IsShutOr, IsClosed, IsClosedOrWhol
 ghost use Rattle.tc_store.specs.Images.{Image};
 ghost use Rattle.tc_store.specs.Moments.{IfTold, LeavesAt, LeavesOnly};
 ghost use Rattle.tc_component.specs.Building.{HasRows, Spools, IsWrittenRecord, unheaded, sizes_written as written_sizes};
+ghost use Rattle.tc_component.specs.Counts.{counts_of};
 ghost use Rattle.tc_component.specs.Layout.{records_place};
 ghost use Rattle.tc_component.specs.Spelling.{Row, held_bytes, records, slots_of, directory as directory_of, file_bytes};
 
+use crate::component::Component;
 use crate::head::{Head, Sizes, bytes_of_head};
+use crate::kept_schema::Counts;
 use crate::layout::{HEAD_LEN, HEAD_PLACE, RECORDS_PLACE, SLOT_LEN};
 use crate::slot::{Slot, put_slot};
 use crate::spool::Spool;
@@ -19,7 +22,7 @@ use std::alloc::Global;
 use std::marker::Model;
 use tc_names::Names;
 use tc_schema::Schema;
-use tc_store::{Broken, Device, DeviceFault, Gated};
+use tc_store::{Broken, Device, DeviceFault, Frozen, Gated};
 
 /// A component that is being written, entry by entry. Contracts see its device, its header, its directory so far, the
 /// bytes that wait to be written, and whether a call failed. Whatever a stop leaves of it is closed.
@@ -148,6 +151,58 @@ impl<D: Device> Builder<D> {
 
         ensures counted { IsCounted (IsErrAnd result (λ broken. broken.cause ≡ DeviceFault.Fault)) (D.Watch.counts watch.old) (D.Watch.counts watch.new) }
     {
+        self.finish_with(names, Counts::Of(schema), watch)
+    }
+
+    /// The same, with the names and the schema of a component, of which no tree is made.
+    pub fn finish_under<F: Frozen>(
+        self,
+        newest: &Component<F>,
+        watch: &mut D::Watch,
+    ) -> Result<D, Broken<D>>
+        requires { self.failed ≡ false }
+
+        // On Ok the file is whole, and nothing is pending.
+        ensures whole { IfOk result (λ device. (rows : List Row) → HasRows (D.history self.device) self rows
+            → IfTold (D.history device) (λ f. f ≡ settled_file (file_bytes self.head rows newest.now.index.names newest.now.index.schema))) }
+        ensures size { IfOk result (λ device. D.size device < 2 ^ 63) }
+        ensures name { IfOk result (λ device. D.name device ≡ D.name self.device) }
+        ensures broken_name { IfErr result (λ broken. D.name broken.device ≡ D.name self.device) }
+
+        // At each moment of the call the file is there, and closed, or whole behind an open gate.
+        ensures moments { (rows : List Row) → HasRows (D.history self.device) self rows
+            → IfOk result (λ device. LeavesOnly (IsClosedOrWhole (file_bytes self.head rows newest.now.index.names newest.now.index.schema)) (D.history self.device) (D.history device)) }
+        ensures broken_moments { (rows : List Row) → HasRows (D.history self.device) self rows
+            → IfErr result (λ broken. LeavesOnly (IsClosedOrWhole (file_bytes self.head rows newest.now.index.names newest.now.index.schema)) (D.history self.device) (D.history broken.device)) }
+        ensures untold { IfErr result (λ broken. D.history self.device ≡ [] → D.history broken.device ≡ []) }
+
+        ensures counted { IsCounted (IsErrAnd result (λ broken. broken.cause ≡ DeviceFault.Fault)) (D.Watch.counts watch.old) (D.Watch.counts watch.new) }
+    {
+        self.finish_with(newest.names(), newest.counts(), watch)
+    }
+
+    fn finish_with(
+        self,
+        names: &Names,
+        schema: Counts<'_>,
+        watch: &mut D::Watch,
+    ) -> Result<D, Broken<D>>
+        requires { self.failed ≡ false }
+
+        ensures whole { IfOk result (λ device. (rows : List Row) → HasRows (D.history self.device) self rows
+            → IfTold (D.history device) (λ f. f ≡ settled_file (file_bytes self.head rows names.now (counts_of schema.entry)))) }
+        ensures size { IfOk result (λ device. D.size device < 2 ^ 63) }
+        ensures name { IfOk result (λ device. D.name device ≡ D.name self.device) }
+        ensures broken_name { IfErr result (λ broken. D.name broken.device ≡ D.name self.device) }
+
+        ensures moments { (rows : List Row) → HasRows (D.history self.device) self rows
+            → IfOk result (λ device. LeavesOnly (IsClosedOrWhole (file_bytes self.head rows names.now (counts_of schema.entry))) (D.history self.device) (D.history device)) }
+        ensures broken_moments { (rows : List Row) → HasRows (D.history self.device) self rows
+            → IfErr result (λ broken. LeavesOnly (IsClosedOrWhole (file_bytes self.head rows names.now (counts_of schema.entry))) (D.history self.device) (D.history broken.device)) }
+        ensures untold { IfErr result (λ broken. D.history self.device ≡ [] → D.history broken.device ≡ []) }
+
+        ensures counted { IsCounted (IsErrAnd result (λ broken. broken.cause ≡ DeviceFault.Fault)) (D.Watch.counts watch.old) (D.Watch.counts watch.new) }
+    {
         let Builder {
             spool,
             head,
@@ -191,7 +246,7 @@ fn put_rest<D: Device>(
     head: Head,
     directory: &[u8],
     names: &Names,
-    schema: &Schema,
+    schema: Counts<'_>,
     watch: &mut D::Watch,
 ) -> Result<(), DeviceFault>
     requires begun { records_place ≤ spool.old.end }
@@ -199,16 +254,16 @@ fn put_rest<D: Device>(
     requires sized { spool.old.end ≡ D.size spool.old.gated }
 
     ensures whole { OnOk result ((rows : List Row) → directory.now ≡ directory_of (slots_of rows) → Spools (D.history spool.old.gated) spool.old.waiting.items (unheaded (records rows))
-        → IfTold (D.history spool.new.gated) (λ f. opened f.content ≡ file_bytes head rows names.now schema.now)) }
+        → IfTold (D.history spool.new.gated) (λ f. opened f.content ≡ file_bytes head rows names.now (counts_of schema.entry))) }
     ensures size { OnOk result (D.size spool.new.gated < 2 ^ 63) }
     ensures name { D.name spool.new.gated ≡ D.name spool.old.gated }
     ensures moments { LeavesOnly IsClosed (D.history spool.old.gated) (D.history spool.new.gated) }
     ensures counted { IsCounted (IsErrOf result DeviceFault.Fault) (D.Watch.counts watch.old) (D.Watch.counts watch.new) }
 {
     let section = names.to_bytes(alloc)?;
-    let schema_bytes = schema.to_bytes(alloc)?;
+    let spelled = schema.to_bytes(alloc)?;
     let named = section.as_slice();
-    let counted = schema_bytes.as_slice();
+    let counted = spelled.as_slice();
     let sizes = sizes_written(spool.len() - RECORDS_PLACE, directory, named, counted);
     let front = bytes_of_head(alloc, head, sizes)?;
     spool.put(directory, watch)?;

@@ -7,6 +7,7 @@ ghost use Rattle.tc_store.specs.Counted.{IsCountedOnce};
 ghost use Rattle.tc_store.specs.Judging.{Judges, IfDamaged, damage as a_damage};
 ghost use Rattle.tc_component.specs.declared.slot.Slot.{Slot as OneSlot};
 ghost use Rattle.tc_component.specs.Columns.{IsFound, IsEntry};
+ghost use Rattle.tc_component.specs.Counts.{counts_of};
 ghost use Rattle.tc_component.specs.Fetching.{IsPlace, record_place, length_at, record_at, IsRecordWithin};
 ghost use Rattle.tc_component.specs.Layout.{directory_place, names_place, schema_place, file_size};
 ghost use Rattle.tc_component.specs.Loading.{index_in, same_head, IsAsJudged, IsCountedTwice};
@@ -17,6 +18,7 @@ ghost use Rattle.tc_component.specs.Spelling.{sizes_in, name_of, IsHead, IsIndex
 use crate::fetching::record_of;
 use crate::found::{DirEntry, Found, Place, Span};
 use crate::head::Head;
+use crate::kept_schema::Counts;
 use crate::layout::{RECORDS_PLACE, SLOT_LEN};
 use crate::loading::{Loaded, loaded_of};
 use crate::reading::{front_in, named_head_in};
@@ -195,6 +197,13 @@ impl<F: Frozen> Component<F> {
     {
         let parts = &self.loaded.parts;
         parts.schema.read(alloc, parts.names.len())
+    }
+
+    /// Its schema, as it is kept.
+    pub(crate) fn counts(&self) -> Counts<'_>
+        ensures { counts_of result ≡ self.now.index.schema }
+    {
+        Counts::Kept(&self.loaded.parts.schema)
     }
 
     /// How many documents its schema counts. Takes no memory.

@@ -4,11 +4,12 @@ ghost use Rattle.std.specs.Prelude.{◌≡◌, IfOk};
 ghost use Rattle.tc_schema_model.specs.Counted.{documents_of};
 ghost use Rattle.tc_schema_model.specs.SchemaTree.{schema_tree};
 ghost use Rattle.tc_schema_model.specs.SchemaBytes.{schema_bytes, IsSchema};
+ghost use Rattle.tc_component.specs.Counts.{counts_of};
 
 use std::alloc::{AllocError, Global};
 use std::marker::Model;
 use std::snapshot::Snapshot;
-use tc_bytes::Memory;
+use tc_bytes::{Bytes, Memory};
 use tc_schema::{Schema, SchemaFault};
 
 /// A schema is asked for rarely, and its tree takes many times the memory of the bytes that spell it. So the bytes are kept, and
@@ -65,6 +66,25 @@ impl KeptSchema {
             Ok(schema) => Ok(schema),
             Err(SchemaFault::NotASchema) => unreachable!(),
             Err(SchemaFault::Memory) => Err(AllocError),
+        }
+    }
+}
+
+/// A schema that is to be written: as its tree, or as it is kept.
+#[derive(Clone, Copy)]
+pub(crate) enum Counts<'a> {
+    Of(&'a Schema),
+    Kept(&'a KeptSchema),
+}
+
+impl<'a> Counts<'a> {
+    /// The bytes that spell it. Errs only for want of memory.
+    pub(crate) fn to_bytes(self, alloc: Global) -> Result<Bytes, Memory>
+        ensures { IfOk result (λ bytes. bytes ≡ schema_bytes (schema_tree (counts_of self.entry))) }
+    {
+        match self {
+            Counts::Of(schema) => schema.to_bytes(alloc),
+            Counts::Kept(kept) => Ok(Bytes::of(Vec::from_slice(alloc, &kept.bytes)?)),
         }
     }
 }

@@ -71,7 +71,7 @@ pub(crate) fn write<S: Store>(
         Err(broken) => return Err(not_written(broken)),
     };
     match merge::<S>(&mut inputs, head.from, &mut builder, watch) {
-        Ok(()) => finish(alloc, run, builder, watch),
+        Ok(()) => finish(run, builder, watch),
         Err(cause) => Err(Failed {
             device: builder.give_back(),
             cause,
@@ -94,7 +94,6 @@ fn inputs_of<F: Frozen>(alloc: Global, run: &[Arc<Component<F>>]) -> Result<Vec<
 
 /// Writes what stands behind the records, under the names and the schema of the newest component, and opens the gate.
 fn finish<F: Frozen, D: Device>(
-    alloc: Global,
     run: &[Arc<Component<F>>],
     builder: Builder<D>,
     watch: &mut D::Watch,
@@ -115,16 +114,7 @@ fn finish<F: Frozen, D: Device>(
     ensures watched { IsCounted (IsErrAnd result (λ failed. failed.cause ≡ MergeFault.Disk)) (D.Watch.counts watch.old) (D.Watch.counts watch.new) }
 {
     let newest = &run[run.len() - 1];
-    let schema = match newest.schema(alloc) {
-        Ok(schema) => schema,
-        Err(_) => {
-            return Err(Failed {
-                device: builder.give_back(),
-                cause: MergeFault::Memory,
-            });
-        }
-    };
-    match builder.finish(newest.names(), &schema, watch) {
+    match builder.finish_under(newest, watch) {
         Ok(written) => Ok(written),
         Err(broken) => Err(not_written(broken)),
     }
