@@ -16,6 +16,7 @@ use Rattle.tc_command.specs.contracts.replies.Rows as Rows
 use Rattle.tc_command.specs.contracts.replies.Schemas as Schemas
 use Rattle.tc_component.proofs.directory.Directory.TheSendSync.{the_send as directory_send, the_sync as directory_sync}
 use Rattle.tc_component.specs.contracts.component.Component as Component
+use Rattle.tc_component.specs.contracts.kept_schema.KeptSchema as KeptSchema
 use Rattle.tc_component.specs.contracts.loading.Loaded as Loaded
 use Rattle.tc_component.specs.contracts.reading.Parts as Parts
 use Rattle.tc_list.specs.contracts.list.ComponentList as ComponentList
@@ -34,9 +35,6 @@ use Rattle.tc_route.specs.Meaning.{requests_at}
 use Rattle.tc_route.specs.contracts.placed.Placed as Placed
 use Rattle.tc_route.specs.contracts.placed.Replies as Replies
 use Rattle.tc_route.specs.contracts.placed.Routed as Routed
-use Rattle.tc_schema.proofs.counters.Counts.TheSendSync.{the_send as counts_send, the_sync as counts_sync}
-use Rattle.tc_schema.proofs.place.Field.TheLaws.TheKnot.{both_send-Node, both_sync-Node}
-use Rattle.tc_schema.specs.contracts.whole.Schema as Schema
 use Rattle.tc_value.proofs.document.Items.TheLaws.TheKnot.{both_sync-Doc, both_sync-Items, both_sync-Members}
 use Rattle.tc_value.proofs.text.Text.TheSendSync.{the_send as text_send, the_sync as text_sync}
 use Rattle.tc_value.proofs.shape_tree.ShapeItems.TheLaws.TheKnot.{both_send-Shape, both_sync-Shape, both_send-ShapeItems, both_sync-ShapeItems, both_send-ShapeMembers, both_sync-ShapeMembers}
@@ -59,20 +57,20 @@ use Rattle.tc_keeper.proofs.window.run_each.Goals as goal
 -- A seat may go to another thread, as what it holds may: a search at the whole takes too many steps.
 pub for_each_mut-requires-send-T : goal.for_each_mut-requires-send-T
 for_each_mut-requires-send-T g c κs within =
-    let schema_send : IsSend (Schema.the_field).row = search (sendable, crosses, counts_send, counts_sync, both_send-Node) depth 20 in
+    let kept_send : IsSend (KeptSchema.the_field).row = search (sendable, crosses) depth 20 in
     let parts_send : IsSend (Parts.the_field).row = search (sendable, directory_send, names_send) depth 20 in
     let loaded_send : IsSend (Loaded.the_field).row = search sendable depth 20 in
     let component_send : IsSend (Component.the_field (param 5 g.row.S-Frozen) (param 3 g.row.S-Watch) g.S.Frozen.Frozen g.S.Watch.Watch).row = search sendable depth 20 in
     let shape_send : IsSend (Shape.the_field).row = search (sendable, crosses, text_send, text_sync, both_send-Shape, both_send-ShapeItems, both_send-ShapeMembers) depth 20 in
-    let slot_send : IsSend (Slot.the_field).row = search (sendable, version_send) depth 20 in
+    let slot_send : IsSend (Slot.the_field).row = search (sendable, crosses, version_send) depth 20 in
     let table_send : IsSend (Memtable.the_field).row = search (sendable, crosses, maps_cross) depth 20 in
     let sealed_send : IsSend (Sealed.the_field).row = search sendable depth 20 in
-    let schema_sync : IsSync (Schema.the_field).row = search (sendable, crosses, counts_send, counts_sync, both_sync-Node) depth 20 in
+    let kept_sync : IsSync (KeptSchema.the_field).row = search (sendable, crosses) depth 20 in
     let parts_sync : IsSync (Parts.the_field).row = search (sendable, directory_sync, names_sync) depth 20 in
     let loaded_sync : IsSync (Loaded.the_field).row = search sendable depth 20 in
     let component_sync : IsSync (Component.the_field (param 5 g.row.S-Frozen) (param 3 g.row.S-Watch) g.S.Frozen.Frozen g.S.Watch.Watch).row = search sendable depth 20 in
     let shape_sync : IsSync (Shape.the_field).row = search (sendable, crosses, text_send, text_sync, both_sync-Shape, both_sync-ShapeItems, both_sync-ShapeMembers) depth 20 in
-    let slot_sync : IsSync (Slot.the_field).row = search (sendable, version_sync) depth 20 in
+    let slot_sync : IsSync (Slot.the_field).row = search (sendable, crosses, version_sync) depth 20 in
     let table_sync : IsSync (Memtable.the_field).row = search (sendable, crosses, maps_cross) depth 20 in
     let sealed_sync : IsSync (Sealed.the_field).row = search sendable depth 20 in
     let list : IsSend (ComponentList.the_field (param 5 g.row.S-Frozen) (param 3 g.row.S-Watch) g.S.Frozen.Frozen g.S.Watch.Watch).row = search (sendable, crosses) depth 20 in

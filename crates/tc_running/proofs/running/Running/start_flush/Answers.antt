@@ -22,10 +22,10 @@ pub start-requires-send-F : goal.start-requires-send-F
 start-requires-send-F g c κs within =
     let schema_send : IsSend (Schema.the_field).row = search (sendable, crosses, counts_send, counts_sync, both_send-Node) depth 20 in
     let shape_send : IsSend (Shape.the_field).row = search (sendable, crosses, text_send, text_sync, both_send-Shape, both_send-ShapeItems, both_send-ShapeMembers) depth 20 in
-    let slot_send : IsSend (Slot.the_field).row = search (sendable, version_field_send) depth 20 in
+    let slot_send : IsSend (Slot.the_field).row = search (sendable, crosses, version_field_send) depth 20 in
     let table_send : IsSend (Memtable.the_field).row = search (sendable, crosses, maps_cross) depth 20 in
     let shape_sync : IsSync (Shape.the_field).row = search (sendable, crosses, text_send, text_sync, both_sync-Shape, both_sync-ShapeItems, both_sync-ShapeMembers) depth 20 in
-    let slot_sync : IsSync (Slot.the_field).row = search (sendable, version_field_sync) depth 20 in
+    let slot_sync : IsSync (Slot.the_field).row = search (sendable, crosses, version_field_sync) depth 20 in
     let table_sync : IsSync (Memtable.the_field).row = search (sendable, crosses, maps_cross) depth 20 in
     let sealed_send : IsSend (Sealed.the_field).row = search sendable depth 20 in
     let sealed_sync : IsSync (Sealed.the_field).row = search sendable depth 20 in

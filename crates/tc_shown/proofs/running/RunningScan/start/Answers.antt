@@ -13,6 +13,7 @@ use Rattle.tc_command.specs.contracts.replies.Row as Row
 use Rattle.tc_command.specs.contracts.replies.Rows as Rows
 use Rattle.tc_component.proofs.directory.Directory.TheSendSync.{the_send as directory_send, the_sync as directory_sync}
 use Rattle.tc_component.specs.contracts.component.Component as Component
+use Rattle.tc_component.specs.contracts.kept_schema.KeptSchema as KeptSchema
 use Rattle.tc_component.specs.contracts.loading.Loaded as Loaded
 use Rattle.tc_component.specs.contracts.reading.Parts as Parts
 use Rattle.tc_list.specs.contracts.list.ComponentList as ComponentList
@@ -21,9 +22,6 @@ use Rattle.tc_memory.specs.contracts.memtable.Memtable as Memtable
 use Rattle.tc_memory.specs.contracts.sealed.Sealed as Sealed
 use Rattle.tc_memory.specs.contracts.slot.Slot as Slot
 use Rattle.tc_names.proofs.dictionary.Names.TheSendSync.{the_send as names_send, the_sync as names_sync}
-use Rattle.tc_schema.proofs.counters.Counts.TheSendSync.{the_send as counts_send, the_sync as counts_sync}
-use Rattle.tc_schema.proofs.place.Field.TheLaws.TheKnot.{both_send-Node, both_sync-Node}
-use Rattle.tc_schema.specs.contracts.whole.Schema as Schema
 use Rattle.tc_value.proofs.document.Items.TheLaws.TheKnot.{both_send-Doc, both_send-Items, both_send-Members}
 use Rattle.tc_value.proofs.text.Text.TheSendSync.{the_send as text_send, the_sync as text_sync}
 use Rattle.tc_value.proofs.shape_tree.ShapeItems.TheLaws.TheKnot.{both_send-Shape, both_sync-Shape, both_send-ShapeItems, both_sync-ShapeItems, both_send-ShapeMembers, both_sync-ShapeMembers}
@@ -45,8 +43,8 @@ use Rattle.tc_shown.proofs.running.RunningScan.start.Goals as goal
 
 listed_send : (g : Over) → IsSend (param 0 g.row.F) → IsSend (param 1 g.row.F-Watch) → IsSync (param 0 g.row.F) → IsSend (ComponentList.the_field (param 0 g.row.F) (param 1 g.row.F-Watch) g.F.Frozen g.F.Watch.Watch).row
 listed_send g file watch shared =
-    let schema_send : IsSend (Schema.the_field).row = search (sendable, crosses, counts_send, counts_sync, both_send-Node) depth 20 in
-    let schema_sync : IsSync (Schema.the_field).row = search (sendable, crosses, counts_send, counts_sync, both_sync-Node) depth 20 in
+    let kept_send : IsSend (KeptSchema.the_field).row = search (sendable, crosses) depth 20 in
+    let kept_sync : IsSync (KeptSchema.the_field).row = search (sendable, crosses) depth 20 in
     let parts_send : IsSend (Parts.the_field).row = search (sendable, directory_send, names_send) depth 20 in
     let parts_sync : IsSync (Parts.the_field).row = search (sendable, directory_sync, names_sync) depth 20 in
     let loaded_send : IsSend (Loaded.the_field).row = search sendable depth 20 in
@@ -57,8 +55,8 @@ listed_send g file watch shared =
 
 listed_sync : (g : Over) → IsSend (param 0 g.row.F) → IsSend (param 1 g.row.F-Watch) → IsSync (param 0 g.row.F) → IsSync (ComponentList.the_field (param 0 g.row.F) (param 1 g.row.F-Watch) g.F.Frozen g.F.Watch.Watch).row
 listed_sync g file watch shared =
-    let schema_send : IsSend (Schema.the_field).row = search (sendable, crosses, counts_send, counts_sync, both_send-Node) depth 20 in
-    let schema_sync : IsSync (Schema.the_field).row = search (sendable, crosses, counts_send, counts_sync, both_sync-Node) depth 20 in
+    let kept_send : IsSend (KeptSchema.the_field).row = search (sendable, crosses) depth 20 in
+    let kept_sync : IsSync (KeptSchema.the_field).row = search (sendable, crosses) depth 20 in
     let parts_send : IsSend (Parts.the_field).row = search (sendable, directory_send, names_send) depth 20 in
     let parts_sync : IsSync (Parts.the_field).row = search (sendable, directory_sync, names_sync) depth 20 in
     let loaded_send : IsSend (Loaded.the_field).row = search sendable depth 20 in
@@ -70,14 +68,14 @@ listed_sync g file watch shared =
 sealed_send : IsSend (Sealed.the_field).row
 sealed_send =
     let shape_send : IsSend (Shape.the_field).row = search (sendable, crosses, text_send, text_sync, both_send-Shape, both_send-ShapeItems, both_send-ShapeMembers) depth 20 in
-    let slot_send : IsSend (Slot.the_field).row = search (sendable, version_field_send) depth 20 in
+    let slot_send : IsSend (Slot.the_field).row = search (sendable, crosses, version_field_send) depth 20 in
     let table_send : IsSend (Memtable.the_field).row = search (sendable, crosses, maps_cross) depth 20 in
     search sendable depth 20
 
 sealed_sync : IsSync (Sealed.the_field).row
 sealed_sync =
     let shape_sync : IsSync (Shape.the_field).row = search (sendable, crosses, text_send, text_sync, both_sync-Shape, both_sync-ShapeItems, both_sync-ShapeMembers) depth 20 in
-    let slot_sync : IsSync (Slot.the_field).row = search (sendable, version_field_sync) depth 20 in
+    let slot_sync : IsSync (Slot.the_field).row = search (sendable, crosses, version_field_sync) depth 20 in
     let table_sync : IsSync (Memtable.the_field).row = search (sendable, crosses, maps_cross) depth 20 in
     search sendable depth 20
 
