@@ -1,9 +1,11 @@
 -- A list of components is walked from its newest one.
 use Rattle.std.proofs.Common.{◌≡◌, ◌∙◌, ◌+◌, ℕ, List, [], ◌∷◌, ◌++◌, Some, length, map, drop, slice_get, refl, sym, ap, subst, append_assoc}
 use Rattle.std.proofs.lemmas.List.{drop_at, length_push, length-map, map-append}
+use Rattle.std.proofs.lemmas.List.Elements.{All-cons}
 use Rattle.tc_component.specs.Columns.{IsFound}
 use Rattle.tc_component.specs.Loading.{ComponentState}
 use Rattle.tc_component.specs.declared.found.Found.{Found}
+use Rattle.tc_component.specs.declared.found.Found.TheVariants.{Absent}
 use Rattle.tc_list.specs.Lookups.{HaveNone, IsNewest}
 
 -- what is left of a walk, where none of what it passed has an entry of a key
@@ -36,6 +38,15 @@ walked_newest f all left older newest key found walked last has =
     let mapped : map f all ≡ map f older ++ f newest ∷ map f walked.passed = ap (map f) parts ∙ map-append f older (newest ∷ walked.passed) in
     subst (λ n. IsNewest (map f all) key n found) (length-map older f)
     (subst (λ cs. IsNewest cs key (length (map f older)) found) (sym mapped) (newest_between (map f older) (map f walked.passed) (f newest) key found has walked.none))
+
+-- the last of what is left has no entry, and is passed
+pub walked_older : {A F : Type 0} (f : A → ComponentState F) (all left older : List A) (newest : A) (key : ℕ) → Walked f all left key → left ≡ older ++ newest ∷ []
+    → IsFound (f newest).index.slots key Absent → Walked f all older key
+walked_older {F = F} f all left older newest key walked last has = record {
+  passed = newest ∷ walked.passed;
+  is = walked.is ∙ ap (λ xs. xs ++ walked.passed) last ∙ append_assoc older (newest ∷ []) walked.passed;
+  none = All-cons (λ (c : ComponentState F). IsFound c.index.slots key Absent) (f newest) (map f walked.passed) has walked.none;
+}
 
 -- nothing is left
 pub walked_all : {A F : Type 0} (f : A → ComponentState F) (all left : List A) (key : ℕ) → Walked f all left key → left ≡ [] → HaveNone (map f all) key

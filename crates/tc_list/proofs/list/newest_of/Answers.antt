@@ -2,9 +2,14 @@ use Rattle.std.proofs.Common.{inl, inr, length, subst}
 use Rattle.std.specs.Arc.{arc_value}
 use Rattle.std.proofs.lemmas.List.{nil_from_length}
 use Rattle.tc_component.specs.Columns.{IsFound}
-use Rattle.tc_component.specs.declared.found.Found.TheVariants.{Gone, At}
-use Rattle.tc_list.proofs.Walks.{walked_newest, walked_all}
+use Rattle.tc_component.specs.declared.found.Found.TheVariants.{Absent, Gone, At}
+use Rattle.tc_list.proofs.Walks.{walked_newest, walked_older, walked_all}
 use Rattle.tc_list.proofs.list.newest_of.Goals as goal
+
+pub loop-newest-preserved : goal.loop-newest-preserved
+loop-newest-preserved g c =
+    let has = subst (λ m. IsFound m.index.slots c.args.key Absent) c.deref.ensures c.in-Absent.ensures in
+    walked_older arc_value c.args.components.now c.loop-newest.rest.now c.in-Some.older.now c.in-Some.newest.now c.args.key c.loop-newest.invariant c.in-Some.ensures.cases.0 has
 
 pub returns-in-Gone : goal.returns-in-Gone
 returns-in-Gone g c =
