@@ -151,17 +151,6 @@ last_left f all left older newest key cs same walked last =
     ∙ ap (option_map f) (ap (λ ys. slice_get ys (length older)) parts ∙ slice_get-get_or (older ++ newest ∷ walked.passed) (length older) newest within
     ∙ ap Some (get_or-append_seam older newest walked.passed newest))
 
-none_more : {F : Type 0} (c : ComponentState F) (cs : List (ComponentState F)) (key : ℕ) → IsFound c.index.slots key Absent → HaveNone cs key → HaveNone (c ∷ cs) key
-none_more c cs key here rest zero d within = here
-none_more c cs key here rest (suc i) d within = rest i d (omega (arith, within))
-
-pub walked_on : {A F : Type 0} (f : A → ComponentState F) (all left older : List A) (newest : A) (key : ℕ) → Walked f all left key → left ≡ older ++ newest ∷ [] → IsFound (f newest).index.slots key Absent → Walked f all older key
-walked_on f all left older newest key walked last here = record {
-  passed = newest ∷ walked.passed;
-  is = walked.is ∙ ap (λ xs. xs ++ walked.passed) last ∙ append_assoc older (newest ∷ []) walked.passed;
-  none = none_more (f newest) (map f walked.passed) key here walked.none;
-}
-
 -- what is written back of a slice of a whole vector
 pub written_back : {X : Type 0} (new old : List X) (len : ℕ) → length new ≡ length old → len ≡ length old → take len (new ++ drop (length new) old) ≡ new
 written_back new old len same long =

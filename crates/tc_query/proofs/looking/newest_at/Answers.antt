@@ -4,9 +4,9 @@ use Rattle.std.proofs.lemmas.List.{nil_from_length}
 use Rattle.std.proofs.lemmas.Option.{slice_get-get_or, slice_get_within}
 use Rattle.tc_component.specs.Columns.{IsFound}
 use Rattle.tc_component.specs.declared.found.Found.TheVariants.{Absent, Gone, At}
-use Rattle.tc_list.proofs.Walks.{walked_newest, walked_all}
+use Rattle.tc_list.proofs.Walks.{walked_newest, walked_older, walked_all}
 use Rattle.tc_list.specs.Lookups.{HaveNone, IsNewest}
-use Rattle.tc_query.proofs.WalkSteps.{last_left, place_ahead, walked_on}
+use Rattle.tc_query.proofs.WalkSteps.{last_left, place_ahead}
 use Rattle.tc_query.proofs.looking.newest_at.Goals as goal
 
 pub found_at-requires-clause-ahead : goal.found_at-requires-clause-ahead
@@ -31,7 +31,7 @@ found_at-requires-clause-from g c κs within =
 pub loop-newest-preserved : goal.loop-newest-preserved
 loop-newest-preserved g c =
     let has = subst (λ m. IsFound m.index.slots c.args.key Absent) c.deref.ensures c.in-Absent.ensures in
-    walked_on arc_value c.as_slice-rest.result.now c.loop-newest.rest.now c.in-Some.older.now c.in-Some.newest.now c.args.key c.loop-newest.invariant c.in-Some.ensures.cases.0 has
+    walked_older arc_value c.as_slice-rest.result.now c.loop-newest.rest.now c.in-Some.older.now c.in-Some.newest.now c.args.key c.loop-newest.invariant c.in-Some.ensures.cases.0 has
 
 pub returns-in-Gone : goal.returns-in-Gone
 returns-in-Gone g c =
