@@ -1,6 +1,6 @@
 //! The component that is written.
 
-ghost use Rattle.std.specs.Prelude.{◌≡◌, ◌<◌, ◌≤◌, ◌+◌, ◌^◌, ◌++◌, ◌∷◌, [], List, true, false, length, option_map, IfSome, IfOk, IfErr, OnOk, OnErr, IsErrOf};
+ghost use Rattle.std.specs.Prelude.{◌≡◌, ◌<◌, ◌≤◌, ◌+◌, ◌^◌, ◌++◌, ◌∷◌, ℕ, [], List, true, false, length, option_map, IfSome, IfOk, IfErr, OnOk, OnErr, IsErrOf};
 ghost use Rattle.std.specs.Result.{IsErrAnd};
 ghost use Rattle.tc_store.specs.Counted.{IsCounted};
 ghost use Rattle.tc_store.specs.DiskFile.{settled_file};
@@ -15,11 +15,12 @@ ghost use Rattle.tc_component.specs.Spelling.{Row, held_bytes, records, slots_of
 use crate::component::Component;
 use crate::head::{Head, Sizes, bytes_of_head};
 use crate::kept_schema::Counts;
-use crate::layout::{HEAD_LEN, HEAD_PLACE, RECORDS_PLACE, SLOT_LEN};
+use crate::layout::{HEAD_LEN, HEAD_PLACE, PIECE_LEN, RECORDS_PLACE, SLOT_LEN};
 use crate::slot::{Slot, put_slot};
 use crate::spool::Spool;
 use std::alloc::Global;
 use std::marker::Model;
+use tc_bytes::Bytes;
 use tc_names::Names;
 use tc_schema::Schema;
 use tc_store::{Broken, Device, DeviceFault, Frozen, Gated};
@@ -181,6 +182,7 @@ impl<D: Device> Builder<D> {
         self.finish_with(newest.names(), newest.counts(), watch)
     }
 
+    /// The same, with a schema that is a tree or is kept as bytes.
     fn finish_with(
         self,
         names: &Names,
@@ -260,26 +262,54 @@ fn put_rest<D: Device>(
     ensures moments { LeavesOnly IsClosed (D.history spool.old.gated) (D.history spool.new.gated) }
     ensures counted { IsCounted (IsErrOf result DeviceFault.Fault) (D.Watch.counts watch.old) (D.Watch.counts watch.new) }
 {
-    let section = names.to_bytes(alloc)?;
-    let spelled = schema.to_bytes(alloc)?;
-    let named = section.as_slice();
-    let counted = spelled.as_slice();
-    let sizes = sizes_written(spool.len() - RECORDS_PLACE, directory, named, counted);
-    let front = bytes_of_head(alloc, head, sizes)?;
+    let records = spool.len() - RECORDS_PLACE;
     spool.put(directory, watch)?;
-    spool.put(named, watch)?;
-    spool.put(counted, watch)?;
+    // one after the other, so that their bytes are not in memory together
+    let named = put_bytes(spool, Bytes::of(names.to_bytes(alloc)?), watch)?;
+    let counted = put_bytes(spool, schema.to_bytes(alloc)?, watch)?;
+    let sizes = sizes_written(records, directory, named, counted);
+    let front = bytes_of_head(alloc, head, sizes)?;
     spool.flush(watch)?;
     spool.gated.write(HEAD_PLACE as u64, &front, watch)
 }
 
-fn sizes_written(records: u64, directory: &[u8], named: &[u8], counted: &[u8]) -> Sizes
-    ensures { result ≡ written_sizes records directory.now named.now counted.now }
+/// Takes these bytes behind all before them, and answers how many they are.
+fn put_bytes<D: Device>(
+    spool: &mut Spool<D>,
+    bytes: Bytes,
+    watch: &mut D::Watch,
+) -> Result<u64, DeviceFault>
+    requires begun { 0 < spool.old.end }
+    requires short { spool.old.end < 2 ^ 63 }
+    requires sized { spool.old.end ≡ D.size spool.old.gated }
+
+    ensures length { IfOk result (λ count. count ≡ length bytes) }
+    ensures begun { OnOk result (spool.old.end ≤ spool.new.end) }
+    ensures short { OnOk result (spool.new.end < 2 ^ 63) }
+    ensures sized { OnOk result (spool.new.end ≡ D.size spool.new.gated) }
+    ensures more { OnOk result ((all : List ℕ) → Spools (D.history spool.old.gated) spool.old.waiting.items all → Spools (D.history spool.new.gated) spool.new.waiting.items (all ++ bytes)) }
+
+    ensures name { D.name spool.new.gated ≡ D.name spool.old.gated }
+    ensures moments { LeavesOnly IsClosed (D.history spool.old.gated) (D.history spool.new.gated) }
+    ensures counted { IsCounted (IsErrOf result DeviceFault.Fault) (D.Watch.counts watch.old) (D.Watch.counts watch.new) }
+{
+    let bytes = bytes.as_slice();
+    if bytes.len() >= PIECE_LEN {
+        // so that they are not copied behind what waits
+        spool.flush(watch)?;
+    }
+    spool.put(bytes, watch)?;
+    Ok(bytes.len() as u64)
+}
+
+/// The sizes of what is written, where the names and the schema have so many bytes.
+fn sizes_written(records: u64, directory: &[u8], named: u64, counted: u64) -> Sizes
+    ensures { (names schema : List ℕ) → named ≡ length names → counted ≡ length schema → result ≡ written_sizes records directory.now names schema }
 {
     Sizes {
         records,
         entries: (directory.len() / SLOT_LEN) as u64,
-        names: named.len() as u64,
-        schema: counted.len() as u64,
+        names: named,
+        schema: counted,
     }
 }

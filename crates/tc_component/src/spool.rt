@@ -45,11 +45,35 @@ impl<D: Device> Spool<D> {
         ensures moments { LeavesOnly IsClosed (D.history self.old.gated) (D.history self.new.gated) }
         ensures counted { IsCounted (IsErrOf result DeviceFault.Fault) (D.Watch.counts watch.old) (D.Watch.counts watch.new) }
     {
+        if bytes.len() >= PIECE_LEN && self.waiting.is_empty() {
+            return self.put_apart(bytes, watch);
+        }
         self.waiting.extend_from_slice(bytes)?;
         if self.waiting.len() < PIECE_LEN {
             return Ok(());
         }
         self.flush(watch)
+    }
+
+    /// Writes these bytes, where none wait. They are enough for a piece of their own, and are not copied.
+    fn put_apart(&mut self, bytes: &[u8], watch: &mut D::Watch) -> Result<(), DeviceFault>
+        requires none { self.old.waiting.items ≡ [] }
+        requires begun { 0 < self.old.end }
+        requires short { self.old.end < 2 ^ 63 }
+        requires sized { self.old.end ≡ D.size self.old.gated }
+
+        ensures begun { OnOk result (self.old.end ≤ self.new.end) }
+        ensures short { OnOk result (self.new.end < 2 ^ 63) }
+        ensures sized { OnOk result (self.new.end ≡ D.size self.new.gated) }
+        ensures more { OnOk result ((all : List ℕ) → Spools (D.history self.old.gated) self.old.waiting.items all → Spools (D.history self.new.gated) self.new.waiting.items (all ++ bytes.now)) }
+
+        ensures name { D.name self.new.gated ≡ D.name self.old.gated }
+        ensures moments { LeavesOnly IsClosed (D.history self.old.gated) (D.history self.new.gated) }
+        ensures counted { IsCounted (IsErrOf result DeviceFault.Fault) (D.Watch.counts watch.old) (D.Watch.counts watch.new) }
+    {
+        self.gated.write(self.end, bytes, watch)?;
+        self.end += bytes.len() as u64;
+        Ok(())
     }
 
     /// Writes all that waits.
