@@ -1,10 +1,12 @@
 //! Whether a record spells a document, by another one that does.
 
-ghost use Rattle.std.specs.Prelude.{◌≡◌, ◌<◌, ◌^◌, IsTrue, false, length};
+ghost use Rattle.std.specs.Prelude.{◌≡◌, ◌<◌, ◌^◌, ℕ, IsTrue, false, length};
 ghost use Rattle.tc_model.specs.Document.{Document, document_shape};
 ghost use Rattle.tc_record.specs.Borrowed.{numbered_tokens};
-ghost use Rattle.tc_record.specs.Record.{NumberedTree, record_of};
+ghost use Rattle.tc_record.specs.Preorder.{tokens_of};
+ghost use Rattle.tc_record.specs.Record.{NumberedTree, IsNumberedForm, IsNumberedRecordIn, record_of};
 ghost use Rattle.tc_compact.specs.Meant.{expanded, IsRecordUnder};
+ghost use Rattle.tc_alike.specs.Alike.{AreAlike};
 ghost use Rattle.tc_alike.specs.Known.{IsKnownUnder};
 
 use crate::alike::is_alike;
@@ -21,6 +23,7 @@ pub fn spells_like(of: &RecordRef<'_>, other: &[u8], names: &Names) -> bool
     ensures found { IsTrue result → (d : Document) × IsRecordUnder names.now d of.now.bytes }
     ensures shape { IsTrue result → (d e : Document) → IsRecordUnder names.now d of.now.bytes → IsRecordUnder names.now e other.now → document_shape d ≡ document_shape e }
     ensures short { IsTrue result → (n : NumberedTree) → of.now.tokens ≡ numbered_tokens n → length (record_of (expanded names.now n)) < 2 ^ 30 }
+    ensures alike { IsTrue result → (own form : ℕ) (n m : NumberedTree) → IsNumberedForm own → IsNumberedRecordIn own n of.now.bytes → IsNumberedRecordIn form m other.now → AreAlike (tokens_of n) (tokens_of m) }
 {
     // that the names are a dictionary, and that the bytes spell a numbered tree
     let _known = names.len();
