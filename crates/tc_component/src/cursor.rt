@@ -1,6 +1,6 @@
 //! Records of a component, read through a window.
 
-ghost use Rattle.std.specs.Prelude.{◌≡◌, ◌<◌, ◌≤◌, ◌+◌, ◌-◌, ◌^◌, ◌↔◌, max, min, length, take, drop, IfSome, IfOk, IsErrOf, IsTrue, OnOk};
+ghost use Rattle.std.specs.Prelude.{◌≡◌, ◌<◌, ◌≤◌, ◌+◌, ◌-◌, ◌^◌, ◌↔◌, max, min, length, take, drop, IfSome, IfNone, IfOk, IsErrOf, IsTrue, OnOk, OnSome};
 ghost use Rattle.std.specs.Result.{IsOk};
 ghost use Rattle.tc_store.specs.Counted.{IsCountedOnce};
 ghost use Rattle.tc_store.specs.Judging.{IfDamaged, IsNoDamage, IsNoDisk};
@@ -10,13 +10,13 @@ ghost use Rattle.tc_component.specs.Spelling.{sizes_in};
 ghost use Rattle.tc_component.specs.Fetching.{IsPlace, record_place, length_at, record_at, IsRecordWithin};
 
 use crate::component::Component;
-use crate::fetching::judge;
+use crate::fetching::record_within;
 use crate::found::Place;
 use crate::layout::WINDOW_LEN;
 use std::alloc::Global;
 use std::marker::Model;
 use tc_record::RecordRef;
-use tc_store::{Frozen, ReadFault};
+use tc_store::{Frozen, ReadFault, damaged};
 
 /// Reads records of one component whose places ascend, many by one read. Contracts see the bytes that it holds and where
 /// they begin in the file.
@@ -134,13 +134,30 @@ impl RecordCursor {
         ensures damaged { IfDamaged result (λ at kept. (at ≡ begin) × (kept ≡ part_held begin count self.now) × (length kept ≡ count) × (IsRecordWithin component.now.index.version (length component.now.index.names) kept → ⊥)) }
         ensures no_disk { IsNoDisk result }
     {
-        let bytes = self.part(begin, count);
-        judge(
-            self.alloc,
+        match self.found(component, begin, count) {
+            Some(found) => Ok(found),
+            None => Err(damaged(self.alloc, begin as usize, self.part(begin, count))),
+        }
+    }
+
+    /// The record that so many bytes from a place on are, which are held, or `None` where `fetch` would find them damaged. Takes no
+    /// memory.
+    #[inline(always)]
+    pub fn found<F: Frozen>(
+        &self,
+        component: &Component<F>,
+        begin: u64,
+        count: u32,
+    ) -> Option<RecordRef<'_>>
+        requires { HasBytes begin count self.now }
+        ensures same { IfSome result (λ found. (found.bytes ≡ part_held begin count self.now) × (found.form ≡ component.now.index.version)) }
+        ensures found { OnSome result (IsRecordWithin component.now.index.version (length component.now.index.names) (part_held begin count self.now)) }
+        ensures none { IfNone result (IsRecordWithin component.now.index.version (length component.now.index.names) (part_held begin count self.now) → ⊥) }
+    {
+        record_within(
             component.version(),
             component.names().len(),
-            begin,
-            bytes,
+            self.part(begin, count),
         )
     }
 
