@@ -1,2 +1,5 @@
+pub mod Leads
 pub mod Reached
 pub mod Same
+pub mod Spots
+pub mod Trails
