@@ -1,9 +1,11 @@
 //! Layer 6, programs: does the public calls on values by path, one a row of standard input, and prints what they answer.
 //! A row is a document, a tab, and the line of a query with a path and a document under `eq`. The answer is how many
 //! values the path reaches, the first one and all of them, with `=` before each that equals the document, and whether the path
-//! reaches that document. Behind another tab may stand a record of the document in hexadecimal digits, whose numbers are those
-//! that a store would take: one of form 1, which no store writes any more. `no answer` stands for a row out of form, and `the forms differ` where a record
-//! with numbers answers otherwise than the one with names. A row that begins with `#` is a note, and is printed as it is.
+//! reaches that document. `led there` and `led elsewhere` are what the place tells to which the path leads in a record with numbers,
+//! where it tells that. Behind another tab may stand a record of the document in hexadecimal digits, whose numbers are those that a
+//! store would take: one of form 1, which no store writes any more. `no answer` stands for a row out of form, and `the forms differ`
+//! where a record with numbers answers otherwise than the one with names. A row that begins with `#` is a note, and is printed as it
+//! is.
 #![tactic(auto)]
 
 mod records;

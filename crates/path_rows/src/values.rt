@@ -11,7 +11,7 @@ use tc_command::{Ask, Command, PathExpr, parse};
 use tc_compact::document_of;
 use tc_json::text_of;
 use tc_names::Names;
-use tc_path::{ValueRef, first, reaches, select};
+use tc_path::{ValueRef, first, hops_of, lead_of, reaches, reaches_at, select};
 use tc_record::RecordRef;
 use tc_value::Doc;
 
@@ -30,15 +30,38 @@ pub(crate) fn answer_of(
     let by_names = reached(alloc, whole.as_slice(), &names, &ask.path, &equal_to)?;
     let compacted = numbered(alloc, whole.as_slice(), &mut names)?;
     let by_numbers = reached(alloc, compacted.as_slice(), &names, &ask.path, &equal_to)?;
+    let by_lead = reached_by_lead(alloc, compacted.as_slice(), &names, &ask.path, &equal_to)?;
     let as_spelled = match spelled {
         Some(record) => reached(alloc, record.as_slice(), &names, &ask.path, &equal_to)?,
         None => String::from_str(alloc, by_names.as_str()).ok()?,
     };
-    if by_names == by_numbers && by_names == as_spelled {
-        Some(by_names)
-    } else {
-        String::from_str(alloc, "the forms differ").ok()
+    if by_names != by_numbers || by_names != as_spelled {
+        return String::from_str(alloc, "the forms differ").ok();
     }
+    format!(in alloc; "{}{by_lead}", by_names.as_str()).ok()
+}
+
+// What the place to which a path leads in a record with numbers tells, if it tells whether the path reaches a document.
+fn reached_by_lead(
+    alloc: Global,
+    bytes: &[u8],
+    names: &Names,
+    path: &PathExpr,
+    equal_to: &Doc,
+) -> Option<&'static str> {
+    let record = RecordRef::of(bytes)?;
+    if record.named() {
+        return None;
+    }
+    let Some(hops) = hops_of(alloc, path, names).ok()? else {
+        return Some("");
+    };
+    let lead = lead_of(&record, hops.as_slice());
+    Some(match reaches_at(&record, lead, equal_to) {
+        Some(true) => ", led there",
+        Some(false) => ", led elsewhere",
+        None => "",
+    })
 }
 
 fn ask_in(alloc: Global, query: &str) -> Option<Ask> {
