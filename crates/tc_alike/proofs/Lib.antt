@@ -1,7 +1,7 @@
 pub mod Forms
 mod Bounds
 mod AlikeBytes
-mod SameOutlines
+pub mod SameOutlines
 pub mod AlikeShapes
 pub mod OrderedShapes
 mod AlikeRecords
