@@ -13,8 +13,7 @@ use Rattle.tc_model.specs.Document.{Document}
 use Rattle.tc_query.specs.Faults.{OfDamage, IsUnharmed, AreNoRecord, IsHarmOf}
 use Rattle.tc_query.specs.declared.fault.QueryFault.{QueryFault}
 use Rattle.tc_query.proofs.Spelled.{of_damage_then}
-use Rattle.tc_record.specs.Borrowed.{Record}
-use Rattle.tc_store.specs.Judging.{IfDamaged, IsNoDamage}
+use Rattle.tc_store.specs.Judging.{IsNoDamage}
 use Rattle.tc_store.specs.declared.damage.ReadFault.{ReadFault}
 use Rattle.tc_store.specs.declared.damage.ReadFault.TheVariants.{Damaged as ReadDamage}
 use Rattle.tc_store.specs.declared.file_name.FileName.{FileName}
@@ -46,14 +45,10 @@ module _ {F : Type 0} (told : F → Option (List ℕ)) (c : ComponentState F) (p
   }
 
   -- and are no record
-  pub judged_harm : (fault : ReadFault) (made : QueryFault) (name : FileName) → name ≡ name_of c.index.head
-      → IfDamaged {X = Record} (Err fault) (λ at kept. (at ≡ begin) × (kept ≡ held) × (length kept ≡ count) × (IsRecordWithin c.index.version (length c.index.names) kept → ⊥))
-      → OfDamage made (λ of at bytes. (of ≡ name) × (fault ≡ ReadDamage at bytes)) → OfDamage made (λ file at bytes. IsHarmOf told c file at bytes)
-  judged_harm fault made name named damaged is =
-      of_damage_then made _ _
-      (λ of at bytes found.
-      let d = subst (λ f. IfDamaged {X = Record} (Err f) (λ at kept. (at ≡ begin) × (kept ≡ held) × (length kept ≡ count) × (IsRecordWithin c.index.version (length c.index.names) kept → ⊥))) found.1 damaged in
-      harm of at bytes (found.0 ∙ named) d.0 d.1 (ap length (sym d.1) ∙ d.2) (inl d.3)) is
+  pub within_harm : (fault : QueryFault) → length held ≡ count → (IsRecordWithin c.index.version (length c.index.names) held → ⊥) → OfDamage fault (λ file at bytes. (file ≡ name_of c.index.head) × (at ≡ begin) × (bytes ≡ held))
+      → OfDamage fault (λ file at bytes. IsHarmOf told c file at bytes)
+  within_harm fault long none is =
+      of_damage_then fault _ _ (λ file at bytes found. harm file at bytes found.0 found.1 found.2 long (inl (λ within. none (subst (IsRecordWithin c.index.version (length c.index.names)) found.2 within)))) is
 
   -- or spell no document
   pub spelled_harm : (fault : QueryFault) → length held ≡ count → OfDamage fault (λ file at bytes. (file ≡ name_of c.index.head) × (at ≡ begin) × (bytes ≡ held) × ((d : Document) → IsRecordUnder c.index.names d bytes → ⊥))

@@ -24,19 +24,12 @@ use Rattle.tc_query.specs.Faults.{OfDamage, IsUnharmed, AreNoRecord, IsHarmOf, I
 use Rattle.tc_query.specs.declared.fault.QueryFault.{QueryFault}
 use Rattle.tc_query.specs.declared.fault.QueryFault.TheVariants.{Disk, Damaged, Memory}
 use Rattle.tc_record.specs.Record.{NumberedTree, record_of, IsRecordOf, IsNumberedRecordIn}
-use Rattle.tc_store.specs.Judging.{IsDamageOr}
-use Rattle.tc_store.specs.declared.damage.ReadFault.{ReadFault}
-use Rattle.tc_store.specs.declared.damage.ReadFault.TheVariants.{Damaged as ReadDamage}
 use Rattle.tc_store.specs.declared.file_name.FileName.{FileName}
 
 pub of_damage_then : (fault : QueryFault) (P Q : FileName → ℕ → List ℕ → Type 0) → ((file : FileName) (place : ℕ) (bytes : List ℕ) → P file place bytes → Q file place bytes) → OfDamage fault P → OfDamage fault Q
 of_damage_then Disk P Q f is = tt
 of_damage_then (Damaged file place bytes) P Q f is = f file place bytes is
 of_damage_then Memory P Q f is = tt
-
--- of bytes that were given as damage
-pub damage_given : (at : ℕ) (bytes : List ℕ) (fault : ReadFault) (place : ℕ) (kept : List ℕ) → IsDamageOr at bytes fault → fault ≡ ReadDamage place kept → (place ≡ at) × (kept ≡ bytes)
-damage_given at bytes fault place kept is same = subst (IsDamageOr at bytes) same is
 
 -- a record whose numbers mean one document means no other
 pub means_one : (version : ℕ) (names : List Name) (bytes : List ℕ) (named : Bool) (d e : Document) → ((x : Document) → IsRecordOf x bytes → named ≡ true) → ((n : NumberedTree) → IsNumberedRecordIn version n bytes → named ≡ false)

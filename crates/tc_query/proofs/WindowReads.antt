@@ -3,10 +3,13 @@ use Rattle.std.proofs.Common.{◌≡◌, ◌<◌, ◌≤◌, ◌+◌, ◌-◌, �
 use Rattle.std.specs.Prelude.{min, slice_get, option_map, unwrap_or, sum_by}
 use Rattle.std.specs.List.{AllByRecursion}
 use Rattle.std.specs.Ordering.{nat_cmp}
+use Rattle.std.specs.declared.alloc.Global.{Global}
+use Rattle.std.specs.declared.vec.Vec.{Vec}
 use Rattle.std.proofs.Math.Nat.{min-eq_left, min-eq_right, le-div_iff_mul-le}
 use Rattle.std.proofs.lemmas.Bool.{cases_lt}
 use Rattle.std.proofs.lemmas.Bool.Decides.{nat_tests}
-use Rattle.std.proofs.lemmas.List.{length-replicate, length-set, replicate-append-replicate}
+use Rattle.std.proofs.lemmas.List.{length-replicate, length-set}
+use Rattle.std.proofs.lemmas.List.Elements.{All-nil}
 use Rattle.std.proofs.lemmas.List.Sums.{sum_by-cons, sum_by-set, sum_by-take-le}
 use Rattle.std.proofs.lemmas.Map.Keys.{sorted_head, sorted_tail}
 use Rattle.std.proofs.lemmas.Option.{same_Some, slice_get-get_or, slice_get_within}
@@ -21,9 +24,10 @@ use Rattle.tc_component.specs.declared.found.Found.TheVariants.{At}
 use Rattle.tc_component.specs.declared.found.Place.{Place}
 use Rattle.tc_component.specs.declared.slot.Slot.{Slot}
 use Rattle.tc_query.proofs.WalkSteps.{get_set, get_zeros}
-use Rattle.tc_query.specs.Readers.{reads_nothing, IsReaderOf, AreReaders}
+use Rattle.tc_query.specs.Readers.{hops_in, AreHopsIf, IsKnownOrNone, reads_nothing, IsReaderOf, AreReaders}
 use Rattle.tc_query.specs.Windows.{record_bytes, most_windows, IsRead, AreRead}
 use Rattle.tc_query.specs.declared.reader.Reader.{Reader}
+use Rattle.tc_request_model.specs.Request.{Hop}
 use Rattle.tc_store.specs.Counted.{Counts}
 
 -- ---- the bytes before an entry
@@ -213,8 +217,8 @@ later_reads low high cs readers first now order a = record {
 pub reads_few : {F : Type 0} (low : ℕ) (cs : List (ComponentState F)) (readers : List Reader) (first now : ℕ) → length readers ≡ length cs → AreRead low cs readers first now → now ≤ first + most_windows cs
 reads_few low cs readers first now many a =
     let few = within_windows cs a.reads (total_few cs a.reads a.many (λ n r c one two.
-    let k = get_or readers n reads_nothing in
-    few_read low c.index.slots k.cursor r (a.each n r c k one (slice_get-get_or readers n reads_nothing (subst (λ m. n < m) (sym many) (slice_get_within cs n c one))) two))) in
+    let k = get_or readers n (reads_nothing None) in
+    few_read low c.index.slots k.cursor r (a.each n r c k one (slice_get-get_or readers n (reads_nothing None) (subst (λ m. n < m) (sym many) (slice_get_within cs n c one))) two))) in
     let together = a.together in
     omega (arith, few, together)
 
@@ -265,8 +269,8 @@ module _ {F : Type 0} (low high : ℕ) (cs : List (ComponentState F)) (readers :
             let d_is : c ≡ d = same_Some c d (sym here ∙ ap (slice_get cs) (sym same.0) ∙ one_is) in
             subst (λ x. IsFew d.index.slots x) same.1 (subst (λ (x : ComponentState F). IsFew x.index.slots (one + more)) d_is (goes one (a.each at one c k here there was)))
         | inr kept ↦
-            let l = get_or readers n reads_nothing in
-            few_read low d.index.slots l.cursor r (a.each n r d l one_is (slice_get-get_or readers n reads_nothing (subst (λ m. n < m) (sym many) (slice_get_within cs n d one_is))) kept.1)
+            let l = get_or readers n (reads_nothing None) in
+            few_read low d.index.slots l.cursor r (a.each n r d l one_is (slice_get-get_or readers n (reads_nothing None) (subst (λ m. n < m) (sym many) (slice_get_within cs n d one_is))) kept.1)
       ])) in
       let together = together_more in
       omega (arith, few, together)
@@ -317,32 +321,35 @@ module _ {F : Type 0} (cs : List (ComponentState F)) (readers : List Reader) (ke
 
 -- ---- readers
 
-pub start_readers : {F : Type 0} (told : F → Option (List ℕ)) (cs : List (ComponentState F)) (readers : List Reader) (count : ℕ) → readers ≡ replicate count reads_nothing → count ≡ length cs → AreReaders told cs readers
-start_readers told cs readers count is many = record {
-  many = ap (λ (ks : List Reader). length ks) is ∙ length-replicate count reads_nothing ∙ many;
-  each = λ n c k here there. subst (IsReaderOf told c) (sym (get_same count n k (ap (λ ks. slice_get ks n) (sym is) ∙ there))) (record { holds = nothing (told c.file); knows = inl refl });
-}
+-- one that holds no byte and knows no record, with the hops of the path
+pub new_reader : {F : Type 0} (told : F → Option (List ℕ)) (path : List Hop) (c : ComponentState F) (hops : Option (Vec ℕ Global)) → AreHopsIf c.index.names path (hops_in hops) → IsReaderOf told path c (reads_nothing hops)
+new_reader told path c hops are = record { holds = nothing (told c.file); hops = are; knows = All-nil (IsKnownOrNone c.index.names (hops_in hops)) }
   where
-    get_same : (m n : ℕ) (k : Reader) → slice_get (replicate m reads_nothing) n ≡ Some k → k ≡ reads_nothing
-    get_same zero n k here = absurd (cc)
-    get_same (suc m) zero k here = sym (same_Some reads_nothing k here)
-    get_same (suc m) (suc n) k here = get_same m n k here
-
     nothing : (content : Option (List ℕ)) → HoldsPart content holds_nothing
     nothing None = tt
     nothing (Some bytes) = refl
 
-pub pushed_reader : (old new : List Reader) (n : ℕ) (k : Reader) → new ≡ old ++ k ∷ [] → k ≡ reads_nothing → old ≡ replicate n reads_nothing → new ≡ replicate (n + 1) reads_nothing
-pushed_reader old new n k pushed is before = pushed ∙ ap (λ x. old ++ x ∷ []) is ∙ ap (λ (ks : List Reader). ks ++ reads_nothing ∷ []) before ∙ replicate-append-replicate n 1 reads_nothing
+module _ {F : Type 0} (told : F → Option (List ℕ)) (path : List Hop) where
+  -- of the first components
+  abbrev pub AreFirstReaders : List (ComponentState F) → List Reader → Type 0
+  AreFirstReaders cs readers = (n : ℕ) (c : ComponentState F) (k : Reader) → slice_get cs n ≡ Some c → slice_get readers n ≡ Some k → IsReaderOf told path c k
 
-pub set_readers : {F : Type 0} (told : F → Option (List ℕ)) (cs : List (ComponentState F)) (readers : List Reader) (at : ℕ) (c : ComponentState F) (new : Reader) → AreReaders told cs readers → slice_get cs at ≡ Some c
-    → IsReaderOf told c new → AreReaders told cs (set readers at new)
-set_readers {F} told cs readers at c new are here holds = record {
+  -- and of one more
+  pub pushed_reader : (cs : List (ComponentState F)) (readers : List Reader) (c : ComponentState F) (k : Reader) → AreFirstReaders cs readers → slice_get cs (length readers) ≡ Some c → IsReaderOf told path c k → AreFirstReaders cs (readers ++ k ∷ [])
+  pushed_reader [] readers c k are here is n d l one two = absurd (cc)
+  pushed_reader (m ∷ cs) [] c k are here is zero d l one two = subst (λ x. IsReaderOf told path x l) (same_Some c d (sym here ∙ one)) (subst (IsReaderOf told path c) (same_Some k l two) is)
+  pushed_reader (m ∷ cs) [] c k are here is (suc n) d l one two = absurd (cc)
+  pushed_reader (m ∷ cs) (j ∷ readers) c k are here is zero d l one two = are 0 d l one two
+  pushed_reader (m ∷ cs) (j ∷ readers) c k are here is (suc n) d l one two = pushed_reader cs readers c k (λ i x y here there. are (suc i) x y here there) here is n d l one two
+
+pub set_readers : {F : Type 0} (told : F → Option (List ℕ)) (path : List Hop) (cs : List (ComponentState F)) (readers : List Reader) (at : ℕ) (c : ComponentState F) (new : Reader) → AreReaders told path cs readers → slice_get cs at ≡ Some c
+    → IsReaderOf told path c new → AreReaders told path cs (set readers at new)
+set_readers {F} told path cs readers at c new are here holds = record {
   many = length-set readers at new ∙ are.many;
   each = λ n d k one two. elim (get_set readers at n new k two) [
     | inl same ↦
         let d_is : c ≡ d = same_Some c d (sym here ∙ ap (slice_get cs) (sym same.0) ∙ one) in
-        subst (λ (x : ComponentState F). IsReaderOf told x k) d_is (subst (IsReaderOf told c) same.1 holds)
+        subst (λ (x : ComponentState F). IsReaderOf told path x k) d_is (subst (IsReaderOf told path c) same.1 holds)
     | inr old ↦ are.each n d k one old.1
   ];
 }

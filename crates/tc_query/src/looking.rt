@@ -56,9 +56,9 @@ pub(crate) fn row_at<F: Frozen>(
     watch: &mut F::Watch,
 ) -> Result<Option<Row>, QueryFault>
     requires stand { StandAt key list.now places.now }
-    requires of { AreReaders F.content list.now readers.old }
+    requires of { AreReaders F.content (ask_of ask.now).path list.now readers.old }
 
-    ensures of { AreReaders F.content list.now readers.new }
+    ensures of { AreReaders F.content (ask_of ask.now).path list.now readers.new }
     ensures row { (pairs : Pairs) → Holds F.content list.now (option_map (λ t. t.now) sealed.entry) active.now pairs → IfOk result (λ row. option_to_list (option_map row_of row) ≡ texts_at (ask_of ask.now) key pairs) }
     ensures shown { IfOk result (λ row. (document : Option Document) × MayHave (λ file. F.content file) (held_newest key (option_map (λ t. t.now) sealed.entry) active.now) list.now key document × (option_to_list (option_map row_of row) ≡ texts_with (ask_of ask.now) key document)) }
     ensures harmed { IfErr result (λ fault. OfDamage fault (λ file at bytes. IsHarmIn (λ file. F.content file) list.now file at bytes)) }
@@ -115,9 +115,9 @@ fn row_listed<F: Frozen>(
     watch: &mut F::Watch,
 ) -> Result<Option<Row>, QueryFault>
     requires stand { StandAt key list.now places.now }
-    requires of { AreReaders F.content list.now readers.old }
+    requires of { AreReaders F.content (ask_of ask.now).path list.now readers.old }
 
-    ensures of { AreReaders F.content list.now readers.new }
+    ensures of { AreReaders F.content (ask_of ask.now).path list.now readers.new }
     ensures row { (part : Partition) (cs : List Content) → IsList part cs → AllZip (IsLoadedOf F.content) list.now cs → IfOk result (λ row. option_to_list (option_map row_of row) ≡ texts_at (ask_of ask.now) key (live cs)) }
     ensures shown { IfOk result (λ row. (document : Option Document) × MayHave (λ file. F.content file) None list.now key document × (option_to_list (option_map row_of row) ≡ texts_with (ask_of ask.now) key document)) }
     ensures harmed { IfErr result (λ fault. OfDamage fault (λ file at bytes. IsHarmIn (λ file. F.content file) list.now file at bytes)) }

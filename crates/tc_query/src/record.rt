@@ -16,13 +16,13 @@ ghost use Rattle.tc_request_model.specs.Paths.{reached};
 ghost use Rattle.tc_request_model.specs.Rows.{row_of as row_reached};
 ghost use Rattle.tc_request_model.specs.Rendered.{row_text};
 ghost use Rattle.tc_query.specs.Faults.{OfDamage, IsHarmOf, IsUnharmed, IsWatched};
-ghost use Rattle.tc_query.specs.Readers.{IsReaderOf, KnowsUnder};
+ghost use Rattle.tc_query.specs.Readers.{hops_in, AreHopsIf, IsReaderOf, KnowsUnder};
 ghost use Rattle.tc_query.specs.Shown.{IsReadOf};
 
 use crate::fault::{QueryFault, of_read};
 use crate::known::Known;
 use crate::reader::Reader;
-use crate::row::row_of_known;
+use crate::row::row_led;
 use std::alloc::Global;
 use tc_command::{Ask, Row};
 use tc_component::{Component, Place, RecordCursor};
@@ -41,9 +41,9 @@ pub(crate) fn row_stored<F: Frozen>(
     watch: &mut F::Watch,
 ) -> Result<Option<Row>, QueryFault>
     requires place { IsPlace component.now.index.slots place }
-    requires of { IsReaderOf F.content component.now reader.old }
+    requires of { IsReaderOf F.content (ask_of ask.now).path component.now reader.old }
 
-    ensures of { IsReaderOf F.content component.now reader.new }
+    ensures of { IsReaderOf F.content (ask_of ask.now).path component.now reader.new }
     ensures row { IfOk result (λ row. (d : Document) → IfSome (F.content component.now.file) (λ whole. IsRecordOfOne component.now.index.version component.now.index.names d (bytes_of_record component.now.index.slots place.at whole)
         → option_to_list (option_map row_of row) ≡ map row_text (row_reached (ask_of ask.now).equal_to key (reached (ask_of ask.now).path d)))) }
     ensures document { IfOk result (λ row. (d : Document) × IsReadOf (λ file. F.content file) component.now place d × (option_to_list (option_map row_of row) ≡ map row_text (row_reached (ask_of ask.now).equal_to key (reached (ask_of ask.now).path d)))) }
@@ -55,9 +55,21 @@ pub(crate) fn row_stored<F: Frozen>(
 {
     let (begin, count) = component.record_range(place);
     hold(component, &mut reader.cursor, begin, count, watch)?;
-    match reader.cursor.judged(component, begin, count) {
-        Ok(found) => row_found(alloc, component, found, &mut reader.known, begin, key, ask),
-        Err(fault) => Err(of_read(component.file_name(), fault)),
+    match reader.cursor.found(component, begin, count) {
+        Some(found) => row_found(
+            alloc,
+            component,
+            &found,
+            &mut reader.known,
+            &reader.hops,
+            begin,
+            key,
+            ask,
+        ),
+        None => {
+            let bytes = reader.cursor.part(begin, count);
+            Err(damage_at(alloc, component, begin, bytes))
+        }
     }
 }
 
@@ -90,26 +102,42 @@ fn hold<F: Frozen>(
 fn row_found<F: Frozen>(
     alloc: Global,
     component: &Component<F>,
-    found: RecordRef<'_>,
+    found: &RecordRef<'_>,
     known: &mut Known,
+    hops: &Option<Vec<u32>>,
     begin: u64,
     key: u64,
     ask: &Ask,
 ) -> Result<Option<Row>, QueryFault>
-    requires found { IsRecordWithin component.now.index.version (length component.now.index.names) found.bytes }
-    requires knows { KnowsUnder component.now.index.names known.old }
+    requires found { IsRecordWithin component.now.index.version (length component.now.index.names) found.now.bytes }
+    requires hops { AreHopsIf component.now.index.names (ask_of ask.now).path (hops_in hops.now) }
+    requires knows { KnowsUnder component.now.index.names (hops_in hops.now) known.old }
 
-    ensures knows { KnowsUnder component.now.index.names known.new }
-    ensures row { IfOk result (λ row. (d : Document) → IsRecordOfOne component.now.index.version component.now.index.names d found.entry.bytes
+    ensures knows { KnowsUnder component.now.index.names (hops_in hops.now) known.new }
+    ensures row { IfOk result (λ row. (d : Document) → IsRecordOfOne component.now.index.version component.now.index.names d found.now.bytes
         → option_to_list (option_map row_of row) ≡ map row_text (row_reached (ask_of ask.now).equal_to key (reached (ask_of ask.now).path d))) }
-    ensures document { IfOk result (λ row. (d : Document) × IsRecordUnder component.now.index.names d found.entry.bytes × (option_to_list (option_map row_of row) ≡ map row_text (row_reached (ask_of ask.now).equal_to key (reached (ask_of ask.now).path d)))) }
-    ensures harmed { IfErr result (λ fault. OfDamage fault (λ file at bytes. (file ≡ name_of component.now.index.head) × (at ≡ begin) × (bytes ≡ found.entry.bytes) × ((d : Document) → IsRecordUnder component.now.index.names d bytes → ⊥))) }
+    ensures document { IfOk result (λ row. (d : Document) × IsRecordUnder component.now.index.names d found.now.bytes × (option_to_list (option_map row_of row) ≡ map row_text (row_reached (ask_of ask.now).equal_to key (reached (ask_of ask.now).path d)))) }
+    ensures harmed { IfErr result (λ fault. OfDamage fault (λ file at bytes. (file ≡ name_of component.now.index.head) × (at ≡ begin) × (bytes ≡ found.now.bytes) × ((d : Document) → IsRecordUnder component.now.index.names d bytes → ⊥))) }
     ensures no_disk { IsErrOf result QueryFault.Disk → ⊥ }
 {
     let bytes = found.bytes();
-    if !known.spells(&found, component.names()) {
-        let damage = damaged(alloc, begin as usize, bytes);
-        return Err(of_read(component.file_name(), damage));
+    let names = component.names();
+    match known.lead(found, names, hops) {
+        Some(lead) => Ok(row_led(alloc, key, found, lead, names, ask)?),
+        None => Err(damage_at(alloc, component, begin, bytes)),
     }
-    Ok(row_of_known(alloc, key, found, component.names(), ask)?)
+}
+
+/// The fault of bytes at a place of a component that are the record of no document, or want of memory for them.
+fn damage_at<F: Frozen>(
+    alloc: Global,
+    component: &Component<F>,
+    begin: u64,
+    bytes: &[u8],
+) -> QueryFault
+    ensures harmed { OfDamage result (λ file at kept. (file ≡ name_of component.now.index.head) × (at ≡ begin) × (kept ≡ bytes.now)) }
+    ensures no_disk { result ≡ QueryFault.Disk → ⊥ }
+{
+    let damage = damaged(alloc, begin as usize, bytes);
+    of_read(component.file_name(), damage)
 }

@@ -1,6 +1,6 @@
 //! The rows over what a partition stores.
 
-ghost use Rattle.std.specs.Prelude.{◌≡◌, ◌≤◌, ◌+◌, ◌++◌, List, map, replicate, IfOk, IfErr, OnOk, IsErrOf, option_map, option_to_list};
+ghost use Rattle.std.specs.Prelude.{◌≡◌, ◌≤◌, ◌+◌, ◌++◌, List, map, IfOk, IfErr, OnOk, IsErrOf, option_map, option_to_list};
 ghost use Rattle.std.specs.List.{AllZip};
 ghost use Rattle.tc_command.specs.Commands.{ask_of};
 ghost use Rattle.tc_command.specs.Rows.{row_of};
@@ -10,7 +10,7 @@ ghost use Rattle.tc_request_model.specs.Rows.{rows_over as rows_of_pairs};
 ghost use Rattle.tc_request_model.specs.Rendered.{row_text};
 ghost use Rattle.tc_plain_model.specs.Writes.{Pairs};
 ghost use Rattle.tc_query.specs.Faults.{OfDamage, IsUnharmed, IsHarmIn, IsWatched};
-ghost use Rattle.tc_query.specs.Readers.{reads_nothing};
+ghost use Rattle.tc_query.specs.Readers.{hops_in, AreHopsIf, AreReaders};
 ghost use Rattle.tc_query.specs.Shown.{MayHold, live_keys};
 ghost use Rattle.tc_query.specs.Stored.{Holds};
 ghost use Rattle.tc_query.specs.Windows.{most_windows};
@@ -24,6 +24,8 @@ use tc_command::{Ask, Row, Rows};
 use tc_component::components_are_contents;
 use tc_list::{ComponentList, loaded_components_show_contents};
 use tc_memory::{Memtable, Sealed};
+use tc_names::Names;
+use tc_path::hops_of;
 use tc_store::Frozen;
 
 /// The rows that an ask gets over components, a sealed table over them, if there is one, and the active table over both, in
@@ -52,7 +54,7 @@ pub fn rows_over<F: Frozen>(
     components_are_contents();
     loaded_components_show_contents::<F>();
     let mut walk = walk_of(alloc, list, sealed, active)?;
-    let mut readers = readers_of(alloc, list.len())?;
+    let mut readers = readers_of(alloc, list, ask)?;
     let mut rows = Vec::new(alloc);
     let mut last = None;
     while let Some(key) = next_key(&mut walk, list, last) {
@@ -73,15 +75,30 @@ pub fn rows_over<F: Frozen>(
     Ok(Rows::of(rows))
 }
 
-/// So many readers that hold no byte.
-fn readers_of(alloc: Global, count: usize) -> Result<Vec<Reader>, AllocError>
-    ensures { IfOk result (λ readers. readers.items ≡ replicate count reads_nothing) }
+/// A reader of each component that holds no byte.
+fn readers_of<F: Frozen>(
+    alloc: Global,
+    list: &ComponentList<F>,
+    ask: &Ask,
+) -> Result<Vec<Reader>, AllocError>
+    ensures { IfOk result (λ readers. AreReaders F.content (ask_of ask.now).path list.now readers.items) }
 {
-    let mut readers = Vec::with_capacity(alloc, count)?;
-    for _ in 0..count {
-        readers.push(Reader::new(alloc))?;
+    let mut readers = Vec::with_capacity(alloc, list.len())?;
+    for at in 0..list.len() {
+        let hops = hops_wanted(alloc, ask, list.component_at(at).names())?;
+        readers.push(Reader::new(alloc, hops))?;
     }
     Ok(readers)
+}
+
+/// The hops of the path of an ask by the numbers of their names, where it asks for a value and each hop goes by a name.
+fn hops_wanted(alloc: Global, ask: &Ask, names: &Names) -> Result<Option<Vec<u32>>, AllocError>
+    ensures { IfOk result (λ hops. AreHopsIf names.now (ask_of ask.now).path (hops_in hops)) }
+{
+    match &ask.eq {
+        None => Ok(None),
+        Some(_) => hops_of(alloc, &ask.path, names),
+    }
 }
 
 /// Adds a row behind the others, if there is one. Errs only for want of memory.

@@ -39,7 +39,7 @@ returns-in-Absent-clause-windows g c = λ low first order a. reads_few low c.arg
 
 pub returns-in-At-clause-of : goal.returns-in-At-clause-of
 returns-in-At-clause-of g c =
-    set_readers g.F.Frozen.content c.args.list.now c.args.readers.now c.in-At.at c.component_at-component.result.now c.row_stored.new.reader c.requires.of c.component_at-component.ensures.there c.row_stored.ensures.of
+    set_readers g.F.Frozen.content (ask_of c.args.ask.now).path c.args.list.now c.args.readers.now c.in-At.at c.component_at-component.result.now c.row_stored.new.reader c.requires.of c.component_at-component.ensures.there c.row_stored.ensures.of
 
 pub returns-in-At-clause-row : goal.returns-in-At-clause-row
 returns-in-At-clause-row g c = λ part cs is all.

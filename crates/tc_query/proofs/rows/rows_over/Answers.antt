@@ -9,7 +9,7 @@ use Rattle.tc_query.proofs.KeyRows.{reads_more, reads_within, reads_ended, rows_
 use Rattle.tc_query.proofs.RowSteps.{rows-start}
 use Rattle.tc_query.proofs.Spelled.{unharmed}
 use Rattle.tc_query.proofs.WalkSteps.{later_walk, written_back}
-use Rattle.tc_query.proofs.WindowReads.{start_readers, start_read, reads_few}
+use Rattle.tc_query.proofs.WindowReads.{start_read, reads_few}
 use Rattle.tc_query.specs.Faults.{IsUnharmed}
 use Rattle.tc_query.specs.Walking.{least_left, IsNext, HasNoneIn}
 use Rattle.tc_query.specs.Readers.{AreReaders}
@@ -25,13 +25,13 @@ loop-key-init g c = record {
       (sym (ap (map row_of) c.new-rows.ensures.items)) (below_none g.F.Frozen.content c.args.list.now (option_map (λ t. t.now) c.args.sealed) c.args.active.now
       (ask_of c.args.ask.now));
   reads = omega arith;
-  readers = start_readers g.F.Frozen.content c.args.list.now _ _ c.in_ok-readers.ensures c.len.ensures;
+  readers = c.in_ok-readers.ensures;
   read = start_read c.args.list.now _ _;
   faults = omega arith;
 }
 
 pub row_at-requires-clause-of : goal.row_at-requires-clause-of
-row_at-requires-clause-of g c κs within = subst (λ ks. AreReaders g.F.Frozen.content c.args.list.now ks) (sym c.deref_mut.ensures.value) c.loop-key.invariant.readers
+row_at-requires-clause-of g c κs within = subst (λ ks. AreReaders g.F.Frozen.content (ask_of c.args.ask.now).path c.args.list.now ks) (sym c.deref_mut.ensures.value) c.loop-key.invariant.readers
 
 pub returns-in_err-row-clause-unharmed : goal.returns-in_err-row-clause-unharmed
 returns-in_err-row-clause-unharmed g c = λ cs all.
@@ -106,7 +106,7 @@ loop-key-preserved g c =
       held = let may = c.in_ok-row.ensures.shown in below_next g.F.Frozen.content cs sealed active (ask_of c.args.ask.now) low key (map row_of l.rows.items) may.0
           (option_to_list (option_map row_of c.in_ok-row.row)) (map row_of c.push_row.new.rows.items) next l.invariant.held may.1 may.2 c.in_ok-push_row.ensures;
       reads = reads_more g.F.Frozen.content cs sealed active low key (counts c.args.watch.now).reads (counts l.watch) (counts c.row_at.new.watch) c.next_key.ensures.lawful next c.row_at.ensures.reads l.invariant.reads;
-      readers = subst (λ ks. AreReaders g.F.Frozen.content cs ks) (sym written) c.row_at.ensures.of;
+      readers = subst (λ ks. AreReaders g.F.Frozen.content (ask_of c.args.ask.now).path cs ks) (sym written) c.row_at.ensures.of;
       read = subst (λ ks. AreRead (key + 1) cs ks (counts c.args.watch.now).reads (counts c.row_at.new.watch).reads) (sym written)
           (c.in_ok-row.ensures.read low (counts c.args.watch.now).reads next.0 (subst (λ ks. AreRead low cs ks (counts c.args.watch.now).reads (counts l.watch).reads) (sym c.deref_mut.ensures.value) l.invariant.read));
       faults = let before = l.invariant.faults in let more = c.row_at.ensures.watched.faults in omega (arith, before, more);

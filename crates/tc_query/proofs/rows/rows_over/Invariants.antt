@@ -25,7 +25,7 @@ invariant-loop-key g l =
       rows : (pairs : Pairs) → Holds (λ file. g.F.Frozen.content file) l.list sealed l.active pairs → map row_of l.rows.items ≡ map row_text (rows_over (ask_of l.ask) (below low pairs));
       held : HoldBelow (λ file. g.F.Frozen.content file) low l.list sealed l.active (ask_of l.ask) (map row_of l.rows.items);
       reads : (counts l.watch).reads ≤ (counts l.fn.watch).reads + length (below low (shown l.list sealed l.active));
-      readers : AreReaders (λ file. g.F.Frozen.content file) l.list l.readers.items;
+      readers : AreReaders (λ file. g.F.Frozen.content file) (ask_of l.ask).path l.list l.readers.items;
       read : AreRead low l.list l.readers.items (counts l.fn.watch).reads (counts l.watch).reads;
       faults : (counts l.fn.watch).faults ≤ (counts l.watch).faults;
     }
