@@ -7,7 +7,8 @@ use std::marker::Model;
 use tc_bytes::Memory;
 
 /// Names with their numbers, which run from 0 on without gaps. Names are only ever added. Contracts see the list of
-/// the names, each as its bytes; a name is any text of fewer than 2^32 bytes, and there are fewer than 2^32.
+/// the names, each as its bytes; a name is any text of fewer than 2^32 bytes, and there are fewer than 2^32. All together
+/// have fewer than 2^32 bytes too: names that would have more are answered as want of memory.
 pub struct Names {
     texts: Texts,
     index: Index,

@@ -1,17 +1,18 @@
 //! Texts one behind the other, and where each ends.
 
-ghost use Rattle.std.specs.Prelude.{◌≡◌, ◌↔◌, ◌<◌, ◌≤◌, ◌-◌, ◌++◌, ◌∷◌, Some, [], length, take, drop, slice_get, IfOk, OnOk, OnErr, IsTrue};
+ghost use Rattle.std.specs.Prelude.{◌≡◌, ◌↔◌, ◌<◌, ◌≤◌, ◌-◌, ◌^◌, ◌++◌, ◌∷◌, Some, [], length, take, drop, slice_get, IfOk, OnOk, OnErr, IsTrue};
 ghost use Rattle.tc_model.specs.Dictionary.{Extends};
 ghost use Rattle.tc_names.specs.Cutting.{cut, AreEnds};
 
-use std::alloc::Global;
+use std::alloc::{AllocError, Global};
 use std::marker::Model;
 use tc_bytes::Memory;
 
-/// Texts that take no memory of their own each. Contracts see the list of them, each as its bytes.
+/// Texts that take no memory of their own each. Contracts see the list of them, each as its bytes. Together they have
+/// fewer than 2^32 bytes, so where each ends takes four.
 pub(crate) struct Texts {
     bytes: Vec<u8>,
-    ends: Vec<usize>,
+    ends: Vec<u32>,
 }
 
 impl Model for Texts {
@@ -69,7 +70,8 @@ impl Texts {
         between(&self.bytes, &self.ends, place)
     }
 
-    /// Adds a text behind the others. Errs only for want of memory, and then nothing has changed.
+    /// Adds a text behind the others. Errs only for want of memory, which stands also for texts that would have 2^32 bytes
+    /// or more together. Then nothing has changed.
     pub(crate) fn push(&mut self, text: &[u8]) -> Result<(), Memory>
         ensures ok { OnOk result (self.new ≡ self.old ++ text.now ∷ []) }
         ensures err { OnErr result (self.new ≡ self.old) }
@@ -105,23 +107,23 @@ impl Texts {
 }
 
 /// The text at a place, by where each text ends.
-fn between<'a>(bytes: &'a [u8], ends: &[usize], place: usize) -> &'a [u8]
+fn between<'a>(bytes: &'a [u8], ends: &[u32], place: usize) -> &'a [u8]
     requires { AreEnds 0 ends.now bytes.now × (place < length ends.now) }
     ensures text { slice_get (cut 0 ends.now bytes.now) place ≡ Some result.now }
 {
     let start = start_of(ends, place);
-    let stop = ends[place];
+    let stop = ends[place] as usize;
     part(bytes, start, stop)
 }
 
 /// Where the text at a place starts, which is where the one before it ends.
-fn start_of(ends: &[usize], place: usize) -> usize
+fn start_of(ends: &[u32], place: usize) -> usize
     requires { place < length ends.now }
     ensures start { slice_get (0 ∷ ends.now) place ≡ Some result }
 {
     match place {
         0 => 0,
-        _ => ends[place - 1],
+        _ => ends[place - 1] as usize,
     }
 }
 
@@ -133,14 +135,26 @@ fn part(bytes: &[u8], start: usize, stop: usize) -> &[u8]
     &bytes[start..stop]
 }
 
+/// Where a text ends that comes behind the bytes. Errs exactly where that is no number of 32 bits.
+fn end_behind(bytes: &[u8], text: &[u8]) -> Result<u32, Memory>
+    ensures end { IfOk result (λ end. end ≡ length (bytes.now ++ text.now)) }
+    ensures refused { OnErr result (2 ^ 32 ≤ length (bytes.now ++ text.now)) }
+{
+    match u32::try_from(bytes.len() + text.len()) {
+        Ok(end) => Ok(end),
+        Err(_) => Err(AllocError),
+    }
+}
+
 /// Adds a text and where it ends. After an `Err` both are as they were.
-fn append(bytes: &mut Vec<u8>, ends: &mut Vec<usize>, text: &[u8]) -> Result<(), Memory>
+fn append(bytes: &mut Vec<u8>, ends: &mut Vec<u32>, text: &[u8]) -> Result<(), Memory>
     ensures bytes { OnOk result (bytes.new.items ≡ bytes.old.items ++ text.now) }
     ensures ends { OnOk result (ends.new.items ≡ ends.old.items ++ length (bytes.old.items ++ text.now) ∷ []) }
     ensures same { OnErr result ((bytes.new.items ≡ bytes.old.items) × (ends.new.items ≡ ends.old.items)) }
 {
+    let end = end_behind(bytes, text)?;
     ends.reserve(1)?;
     bytes.extend_from_slice(text)?;
-    ends.push_reserved(bytes.as_slice().len());
+    ends.push_reserved(end);
     Ok(())
 }
