@@ -1,6 +1,6 @@
 -- Texts that stand one behind the other: which text is where, and one more behind them.
-use Rattle.std.proofs.Common.{◌≡◌, ◌≤◌, ◌-◌, ℕ, zero, suc, List, [], ◌∷◌, ◌++◌, Some, take, drop, length, slice_get, refl, ap, ◌∙◌, arith, length-append}
-use Rattle.std.proofs.lemmas.List.{take-append-le, drop-append-le, length-drop}
+use Rattle.std.proofs.Common.{◌≡◌, ◌≤◌, ◌-◌, ℕ, zero, suc, List, [], ◌∷◌, ◌++◌, Some, take, drop, flat_map, length, slice_get, slice_index_or, refl, ap, ◌∙◌, arith, length-append}
+use Rattle.std.proofs.lemmas.List.{take-append-le, drop-append-le, length-drop, length-take-le}
 use Rattle.std.proofs.lemmas.Option.{same_Some}
 use Rattle.std.proofs.Math.Seq.{drop-append_seam, take-length}
 use Rattle.tc_names.specs.Cutting.{cut, AreEnds}
@@ -55,3 +55,17 @@ cut-push start (end ∷ ends) bytes text are =
 pub ends-push : (start : ℕ) (ends bytes text : List ℕ) → AreEnds start ends bytes → AreEnds start (ends ++ length (bytes ++ text) ∷ []) (bytes ++ text)
 ends-push start [] bytes text are = (omega (arith, are, length-append bytes text), refl)
 ends-push start (end ∷ ends) bytes text are = (are.0, ends-push end ends bytes text are.1)
+
+-- all texts together have the bytes behind the start
+pub size-cut : (start : ℕ) (ends bytes : List ℕ) → AreEnds start ends bytes → length (flat_map (λ text. text) (cut start ends bytes)) ≡ length bytes - start
+size-cut start [] bytes are = omega (arith, are)
+size-cut start (end ∷ ends) bytes are =
+    let within : end ≤ length bytes = start-within end ends bytes are.1 in
+    let first : length (take (end - start) (drop start bytes)) ≡ end - start = length-take-le (end - start) (drop start bytes) (omega (arith, within, are.0, length-drop start bytes)) in
+    let both = length-append (take (end - start) (drop start bytes)) (flat_map (λ text. text) (cut end ends bytes)) in
+    omega (arith, within, are.0, first, both, size-cut end ends bytes are.1)
+
+-- and where the last of them ends, or the start where there is none, is where the bytes end
+pub last-end : (start : ℕ) (ends bytes : List ℕ) → AreEnds start ends bytes → slice_index_or (start ∷ ends) (length ends) 0 ≡ length bytes
+last-end start [] bytes are = are
+last-end start (end ∷ ends) bytes are = last-end end ends bytes are.1

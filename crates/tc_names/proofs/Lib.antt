@@ -3,4 +3,5 @@ pub mod Cuts
 pub mod Found
 pub mod Links
 pub mod LongestName
+pub mod SectionSize
 pub mod Spelling

@@ -46,7 +46,7 @@ impl Drop for Names {
 }
 
 impl Names {
-    ghost use Rattle.std.specs.Prelude.{◌≡◌, ◌<◌, ◌^◌, ◌↔◌, ℕ, List, [], length, option_map, slice_get, IfOk, OnOk, OnErr, IsTrue, Some};
+    ghost use Rattle.std.specs.Prelude.{◌≡◌, ◌<◌, ◌^◌, ◌↔◌, ℕ, List, [], length, option_map, flat_map, slice_get, IfOk, OnOk, OnErr, IsTrue, Some};
     ghost use Rattle.tc_model.specs.Dictionary.{number_of, learned, Extends, IsDictionary};
     ghost use Rattle.tc_names.specs.Longest.{longest_of};
 
@@ -80,6 +80,13 @@ impl Names {
         ensures dictionary { IsDictionary self.now }
     {
         self.texts.len() as u32
+    }
+
+    /// How many bytes all names have together.
+    pub(crate) fn size(&self) -> u32
+        ensures { result ≡ length (flat_map (λ name. name) self.now) }
+    {
+        self.texts.size()
     }
 
     /// How many bytes the longest name has, and 0 where there is none. It is kept, so that no name is looked at.

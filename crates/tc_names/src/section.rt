@@ -12,11 +12,18 @@ use std::alloc::Global;
 use tc_bytes::{Memory, counted_at, put_counted, put_u32, u32_at};
 
 impl Names {
-    /// The bytes of the dictionary. Errs only for want of memory.
+    /// How many bytes the dictionary is spelled in.
+    fn section_size(&self) -> usize
+        ensures { result ≡ length (section self.now) }
+    {
+        4 + 4 * self.len() as usize + self.size() as usize
+    }
+
+    /// The bytes of the dictionary, in no more memory than they take. Errs only for want of memory.
     pub fn to_bytes(&self, alloc: Global) -> Result<Vec<u8>, Memory>
         ensures spelled { IfOk result (λ bytes. bytes.items ≡ section self.now) }
     {
-        let mut out = Vec::new(alloc);
+        let mut out = Vec::with_capacity(alloc, self.section_size())?;
         put_u32(&mut out, self.len())?;
         for id in 0..self.len() {
             put_counted(&mut out, self.name_of(id).unwrap().as_bytes())?;

@@ -1,6 +1,6 @@
 //! Texts one behind the other, and where each ends.
 
-ghost use Rattle.std.specs.Prelude.{◌≡◌, ◌↔◌, ◌<◌, ◌≤◌, ◌-◌, ◌^◌, ◌++◌, ◌∷◌, Some, [], length, take, drop, slice_get, IfOk, OnOk, OnErr, IsTrue};
+ghost use Rattle.std.specs.Prelude.{◌≡◌, ◌↔◌, ◌<◌, ◌≤◌, ◌-◌, ◌^◌, ◌++◌, ◌∷◌, Some, [], length, take, drop, flat_map, slice_get, IfOk, OnOk, OnErr, IsTrue};
 ghost use Rattle.tc_model.specs.Dictionary.{Extends};
 ghost use Rattle.tc_names.specs.Cutting.{cut, AreEnds};
 
@@ -60,6 +60,16 @@ impl Texts {
         ensures count { result ≡ length self.now }
     {
         self.ends.as_slice().len()
+    }
+
+    /// How many bytes the texts have together.
+    pub(crate) fn size(&self) -> u32
+        ensures size { result ≡ length (flat_map (λ text. text) self.now) }
+    {
+        match self.ends.as_slice() {
+            [] => 0,
+            [.., last] => *last,
+        }
     }
 
     /// The text at a place.
