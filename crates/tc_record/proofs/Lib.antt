@@ -23,6 +23,8 @@ pub mod ColumnSizes
 pub mod NumberColumns
 pub mod Placed
 mod Scans
+mod Alike
+mod LabelsLeft
 pub mod Tails
 pub mod Cutting
 pub mod Reading
@@ -37,3 +39,4 @@ pub mod LevelsBehind
 mod Told
 mod CutNames
 mod WholeTexts
+pub mod FlatRows

@@ -1,6 +1,6 @@
 //! The numbers of a column of a record, lent.
 
-ghost use Rattle.std.specs.Prelude.{◌≡◌, ◌∷◌, [], IfSome, IfNone};
+ghost use Rattle.std.specs.Prelude.{◌≡◌, ◌≤◌, ◌∷◌, [], IfSome, IfNone, IsTrue, drop, take, length};
 
 use crate::numbers::Numbers;
 use std::marker::Model;
@@ -36,5 +36,37 @@ impl<'a> Column<'a> {
         ensures end { IfNone result (self.old ≡ []) }
     {
         self.left.next()
+    }
+
+    /// How many numbers are left. Takes no memory.
+    pub fn len(&self) -> u32
+        ensures { result ≡ length self.now }
+    {
+        self.left.left
+    }
+
+    /// The same column, lent once more. Takes no memory.
+    #[inline(always)]
+    pub fn again(&self) -> Column<'a>
+        ensures { result ≡ self.now }
+    {
+        Column { left: self.left }
+    }
+
+    /// Passes so many numbers, or all that are left. Takes no memory.
+    #[inline(always)]
+    pub fn pass(&mut self, count: u32)
+        ensures { self.new ≡ drop count self.old }
+    {
+        self.left.pass(count);
+    }
+
+    /// Whether so many numbers are left here and in another column, and are the same. Where the answer is no, nothing is said.
+    /// Takes no memory.
+    #[inline(always)]
+    pub fn begins_like(&self, other: &Column<'_>, count: u32) -> bool
+        ensures { IsTrue result → (count ≤ length self.now) × (take count self.now ≡ take count other.now) }
+    {
+        self.left.begin_like(&other.left, count)
     }
 }

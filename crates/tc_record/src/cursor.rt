@@ -1,12 +1,15 @@
 //! A cursor over the tokens of a record.
 
-ghost use Rattle.std.specs.Prelude.{◌≡◌, ◌++◌, [], false, Some, None, IfNone, IsTrue, if◌then◌else◌, is_some, unwrap_or, option_map, option_to_list};
+ghost use Rattle.std.specs.Prelude.{◌≡◌, ◌≤◌, ◌-◌, ◌++◌, [], false, Some, None, IfNone, IsTrue, if◌then◌else◌, is_some, unwrap_or, option_map, option_to_list, length, map, take};
 ghost use Rattle.tc_record.specs.Behind.{behind_close};
+ghost use Rattle.tc_record.specs.FlatRows.{IsRowBefore};
 ghost use Rattle.tc_record.specs.Preorder.{token, object_opened};
+ghost use Rattle.tc_record.specs.Record.{labels};
 ghost use Rattle.tc_record.specs.Walk.{known_step};
-ghost use Rattle.tc_record.specs.WalkView.{token_of, columns_of, format_of};
+ghost use Rattle.tc_record.specs.WalkView.{token_of, piece_of, columns_of, format_of};
 ghost use Rattle.tc_record.specs.Stack.{kinds_of};
 
+use crate::flat_rows::row_taken;
 use crate::passing::tags_behind_close;
 use crate::token::{Label, Piece, Token};
 use crate::walking::Walk;
@@ -74,6 +77,44 @@ impl<'a> Cursor<'a> {
         self.tags = rest;
         self.started = true;
         token
+    }
+
+    /// The tags of the tokens that are left. Takes no memory. Contracts say nothing of them: they serve to tell what `take_row` is
+    /// worth to be asked for.
+    pub fn tags(&self) -> &'a [u8] {
+        self.tags
+    }
+
+    /// Whether so many labels are left here and in another cursor, and are the same. Where the answer is no, nothing is said.
+    /// Takes no memory.
+    #[inline(always)]
+    pub fn labels_like(&self, other: &Cursor<'_>, count: u32) -> bool
+        ensures { IsTrue result → (count ≤ length (labels self.now)) × (take count (labels self.now) ≡ take count (labels other.now)) }
+    {
+        if self.walk.format.named || other.walk.format.named {
+            return false;
+        }
+        let slots = &self.walk.columns.slots;
+        slots.begin_like(&other.walk.columns.slots, count)
+    }
+
+    /// Takes the next item of an array, if it is an object of scalars and its tags are these. Its values are then the first ones in
+    /// the room, of which there have to be enough. Else the cursor stays. Takes no memory.
+    #[inline(always)]
+    pub fn take_row(&mut self, tags: &[u8], room: &mut [Piece<'a>]) -> bool
+        ensures taken { IsTrue result → IsRowBefore self.new (map piece_of (take (length tags.now - 2) room.new)) self.old }
+        ensures stays { result ≡ false → self.new ≡ self.old }
+    {
+        if !self.started {
+            return false;
+        }
+        match row_taken(self.tags, &mut self.walk, tags, room) {
+            Some(rest) => {
+                self.tags = rest;
+                true
+            }
+            None => false,
+        }
     }
 
     /// Passes the tokens up to the close of the innermost array or object that is open, and that close. Takes no memory.

@@ -9,6 +9,7 @@ mod cursor;
 mod decoding;
 mod encoding;
 mod fault;
+mod flat_rows;
 mod header;
 mod judging;
 mod judging_numbers;
