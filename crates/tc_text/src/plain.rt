@@ -101,9 +101,9 @@ fn plain_short(text: &[u8]) -> bool
 }
 
 /// Whether a text is the same between quotes, which is found for most texts that are so. A text with a byte that has an
-/// escape is never taken for one.
+/// escape is never taken for one. Takes no memory.
 #[inline(always)]
-pub(crate) fn is_plain(text: &[u8]) -> bool
+pub fn is_plain(text: &[u8]) -> bool
     ensures { OnTrue result (escape text.now ≡ text.now) }
 {
     if text.len() < 32 {
