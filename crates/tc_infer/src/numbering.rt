@@ -22,6 +22,9 @@ use tc_schema::{Field, Node};
 use tc_value::Kind;
 
 /// Counts the value whose token was taken at a place. After `Ok` the cursor stands behind the value.
+// built into the two loops below, which take a call for each array and each object: most values are scalars, and a call
+// for each of those costs more than to count it
+#[inline(always)]
 #[cycle(numbering)]
 pub fn learn_value(
     cursor: &mut Cursor<'_>,
@@ -50,6 +53,7 @@ pub fn learn_value(
     }
 }
 
+#[inline(never)]
 #[cycle(numbering)]
 fn learn_items(
     cursor: &mut Cursor<'_>,
@@ -109,6 +113,7 @@ fn learn_item(
     }
 }
 
+#[inline(never)]
 #[cycle(numbering)]
 fn learn_members(
     cursor: &mut Cursor<'_>,
