@@ -19,6 +19,9 @@ use tc_names::Names;
 use tc_record::Label;
 use tc_schema::{Field, search_fields};
 
+/// Names of no more bytes are compared byte by byte.
+const FEW_BYTES: usize = 4;
+
 /// Where the field of a label stands, whatever the guess: that of the name that it carries, or whose number it carries. One
 /// where nothing is counted is made where there is none.
 pub fn place_of_label(
@@ -167,7 +170,29 @@ fn stands_at(fields: &[Field], at: usize, names: &Names, name: &str) -> bool
         return false;
     }
     match names.name_of(fields[at].number) {
-        Some(known) => known == name,
+        Some(known) => are_same(known, name),
         None => false,
     }
+}
+
+/// Whether two names are the same. Most are short, and a few bytes cost less to compare than a call does.
+#[inline(always)]
+fn are_same(name: &str, other: &str) -> bool
+    ensures { IsTrue result → name.now ≡ other.now }
+{
+    let (bytes, others) = (name.as_bytes(), other.as_bytes());
+    if bytes.len() > FEW_BYTES {
+        return name == other;
+    }
+    if bytes.len() != others.len() {
+        return false;
+    }
+    let mut at = 0;
+    'bytes: while at < bytes.len() {
+        if bytes[at] != others[at] {
+            return false;
+        }
+        at += 1;
+    }
+    true
 }
