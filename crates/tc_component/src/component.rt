@@ -1,10 +1,10 @@
 //! The component that is searched.
 
-ghost use Rattle.std.specs.Prelude.{◌≡◌, ◌<◌, ◌≤◌, ◌+◌, ◌-◌, ℕ, List, Err, Some, slice_get, length, min, take, IfOk, IfSome, IsErrOf};
+ghost use Rattle.std.specs.Prelude.{◌≡◌, ◌<◌, ◌≤◌, ◌+◌, ◌-◌, ℕ, List, Err, Some, slice_get, length, min, take, IfOk, IfSome, IfNone, IsErrOf, OnSome};
 ghost use Rattle.std.specs.Result.{IsOk};
 ghost use Rattle.tc_schema_model.specs.Counted.{documents_of};
 ghost use Rattle.tc_store.specs.Counted.{IsCountedOnce};
-ghost use Rattle.tc_store.specs.Judging.{Judges, IfDamaged, damage as a_damage};
+ghost use Rattle.tc_store.specs.Judging.{Judges, IfDamaged, IsNoDamage, damage as a_damage};
 ghost use Rattle.tc_component.specs.declared.slot.Slot.{Slot as OneSlot};
 ghost use Rattle.tc_component.specs.Columns.{IsFound, IsEntry};
 ghost use Rattle.tc_component.specs.Counts.{counts_of};
@@ -15,7 +15,7 @@ ghost use Rattle.tc_component.specs.Reading.{head_judged, file_judged};
 ghost use Rattle.tc_component.specs.Spans.{AreSpans};
 ghost use Rattle.tc_component.specs.Spelling.{sizes_in, name_of, IsHead, IsIndex};
 
-use crate::fetching::record_of;
+use crate::fetching::record_within;
 use crate::found::{DirEntry, Found, Place, Span};
 use crate::head::Head;
 use crate::kept_schema::Counts;
@@ -27,6 +27,7 @@ use std::alloc::Global;
 use std::marker::Model;
 use tc_bytes::{Bytes, Memory};
 use tc_names::Names;
+use tc_record::RecordRef;
 use tc_schema::Schema;
 use tc_store::{FileName, Frozen, ReadFault, bytes_of};
 
@@ -151,16 +152,48 @@ impl<F: Frozen> Component<F> {
 
         ensures counted { IsCountedOnce (IsErrOf result ReadFault.Disk) (IsErrOf result ReadFault.Memory → ⊥) (F.Watch.counts watch.old) (F.Watch.counts watch.new) }
     {
+        let bytes = self.read_record(alloc, place, watch)?;
+        match self.found(bytes.as_slice()) {
+            Some(_) => Ok(bytes),
+            None => {
+                let (place, _) = self.record_range(place);
+                Err(ReadFault::Damaged { place, bytes })
+            }
+        }
+    }
+
+    /// Reads the bytes of the entry at a place, by one read, which is left out where memory is wanting. What they are is not
+    /// looked at; `found` tells it. `Disk` comes only where the read failed.
+    pub fn read_record(
+        &self,
+        alloc: Global,
+        place: Place,
+        watch: &mut F::Watch,
+    ) -> Result<Bytes, ReadFault>
+        requires { IsPlace self.now.index.slots place }
+        ensures read { IfOk result (λ read. IfSome (F.content self.now.file) (λ bytes. read ≡ record_at self.now.index.slots place.at bytes)) }
+
+        // Also of a file that does not tell its content.
+        ensures long { IfOk result (λ read. length read ≡ length_at self.now.index.slots place.at) }
+
+        ensures no_damage { IsNoDamage result }
+        ensures counted { IsCountedOnce (IsErrOf result ReadFault.Disk) (IsErrOf result ReadFault.Memory → ⊥) (F.Watch.counts watch.old) (F.Watch.counts watch.new) }
+    {
         let directory = &self.loaded.parts.directory;
         let at = RECORDS_PLACE + directory.start(place.at);
         let count = directory.slot(place.at).length as usize;
         let bytes = bytes_of(alloc, &self.file, at, count, watch)?;
-        record_of(
-            self.loaded.version,
-            self.loaded.parts.names.len(),
-            at,
-            bytes,
-        )
+        Ok(Bytes::of(bytes))
+    }
+
+    /// The record that bytes of an entry are, or `None` where `fetch` would find them damaged. Takes no memory.
+    #[inline(always)]
+    pub fn found<'b>(&self, bytes: &'b [u8]) -> Option<RecordRef<'b>>
+        ensures same { IfSome result (λ found. (found.bytes ≡ bytes.now) × (found.form ≡ self.now.index.version)) }
+        ensures found { OnSome result (IsRecordWithin self.now.index.version (length self.now.index.names) bytes.now) }
+        ensures none { IfNone result (IsRecordWithin self.now.index.version (length self.now.index.names) bytes.now → ⊥) }
+    {
+        record_within(self.version(), self.names().len(), bytes)
     }
 
     /// Where the record of an entry begins in the file, and how many bytes it has.

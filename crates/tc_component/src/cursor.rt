@@ -10,7 +10,6 @@ ghost use Rattle.tc_component.specs.Spelling.{sizes_in};
 ghost use Rattle.tc_component.specs.Fetching.{IsPlace, record_place, length_at, record_at, IsRecordWithin};
 
 use crate::component::Component;
-use crate::fetching::record_within;
 use crate::found::Place;
 use crate::layout::WINDOW_LEN;
 use std::alloc::Global;
@@ -154,11 +153,7 @@ impl RecordCursor {
         ensures found { OnSome result (IsRecordWithin component.now.index.version (length component.now.index.names) (part_held begin count self.now)) }
         ensures none { IfNone result (IsRecordWithin component.now.index.version (length component.now.index.names) (part_held begin count self.now) → ⊥) }
     {
-        record_within(
-            component.version(),
-            component.names().len(),
-            self.part(begin, count),
-        )
+        component.found(self.part(begin, count))
     }
 
     /// Holds so many bytes of the records from a place on, by no read where they are held, and by one where they are not.

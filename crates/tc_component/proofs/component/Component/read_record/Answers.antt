@@ -1,10 +1,10 @@
-use Rattle.std.proofs.Common.{◌≡◌, ◌≤◌, ◌+◌, take, refl, ap, subst, sym, arith}
+use Rattle.std.proofs.Common.{◌≡◌, ◌≤◌, ◌+◌, Ok, take, refl, ap, subst, sym, arith}
 use Rattle.std.specs.Result.{IsOk}
 use Rattle.tc_component.specs.declared.head.Sizes.{Sizes}
 use Rattle.tc_component.specs.Spelling.{lengths_of}
 use Rattle.tc_component.proofs.Lookups.{within_all}
 use Rattle.tc_component.proofs.Fetched.{read_once}
-use Rattle.tc_component.proofs.component.Component.fetch.Goals as goal
+use Rattle.tc_component.proofs.component.Component.read_record.Goals as goal
 
 pub bytes_of-requires-after_bounds : goal.bytes_of-requires-after_bounds
 bytes_of-requires-after_bounds g c κs within =
@@ -17,4 +17,4 @@ bytes_of-requires-after_bounds g c κs within =
 
 pub returns-clause-counted : goal.returns-clause-counted
 returns-clause-counted g c =
-    read_once c.record_of.result _ (IsOk c.bytes_of.result) _ _ c.record_of.ensures.no_disk (subst IsOk (sym c.in_ok-bytes.was) refl) c.bytes_of.ensures.counted
+    read_once (Ok c.of.result) _ (IsOk c.bytes_of.result) _ _ tt (subst IsOk (sym c.in_ok-bytes.was) refl) c.bytes_of.ensures.counted
