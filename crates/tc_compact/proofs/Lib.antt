@@ -12,5 +12,6 @@ mod Cut
 mod Orders
 mod OutlineSteps
 mod Outlines
+mod AlikeRows
 pub mod Meanings
 pub mod RoundTrip

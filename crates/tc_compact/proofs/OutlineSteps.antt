@@ -6,7 +6,7 @@ use Rattle.tc_record.specs.Preorder.{Piece, closed, Token, token, tokens_of, pre
 use Rattle.tc_record.specs.Record.{tags, labels, piece_tag, NumberedTree}
 use Rattle.tc_record.specs.Walk.{is_above}
 use Rattle.tc_compact.specs.Meant.{name_at}
-use Rattle.tc_compact.specs.Outline.{OutlineState, IsOutlineOf, first_piece, behind_first, is_ordered, are_items_ordered, are_members_ordered}
+use Rattle.tc_compact.specs.Outline.{OutlineState, IsOutlineOf, IsBehindOrdered, first_piece, behind_first, is_ordered, are_items_ordered, are_members_ordered}
 
 -- ---- the first token
 
@@ -15,13 +15,13 @@ first_token l (leaf s) more = refl
 first_token l (array xs) more = ap (λ ts. token l (first_piece (array xs)) ∷ ts) (append_assoc (items_preorder xs) (token None closed ∷ []) more)
 first_token l (object ms) more = ap (λ ts. token l (first_piece (object ms)) ∷ ts) (append_assoc (members_preorder ms) (token None closed ∷ []) more)
 
-first_item : (t : NumberedTree) (ts : Items ℕ Scalar) (more : List (Token ℕ Scalar)) → items_preorder (item t ts) ++ more ≡ token None (first_piece t) ∷ behind_first t (items_preorder ts ++ more)
+pub first_item : (t : NumberedTree) (ts : Items ℕ Scalar) (more : List (Token ℕ Scalar)) → items_preorder (item t ts) ++ more ≡ token None (first_piece t) ∷ behind_first t (items_preorder ts ++ more)
 first_item t ts more = append_assoc (preorder None t) (items_preorder ts) more ∙ first_token None t (items_preorder ts ++ more)
 
-first_member : (k : ℕ) (t : NumberedTree) (ms : Members ℕ Scalar) (more : List (Token ℕ Scalar)) → members_preorder (member k t ms) ++ more ≡ token (Some k) (first_piece t) ∷ behind_first t (members_preorder ms ++ more)
+pub first_member : (k : ℕ) (t : NumberedTree) (ms : Members ℕ Scalar) (more : List (Token ℕ Scalar)) → members_preorder (member k t ms) ++ more ≡ token (Some k) (first_piece t) ∷ behind_first t (members_preorder ms ++ more)
 first_member k t ms more = append_assoc (preorder (Some k) t) (members_preorder ms) more ∙ first_token (Some k) t (members_preorder ms ++ more)
 
-not_closed : {A : Type 0} (t : NumberedTree) → 7 ≡ piece_tag (first_piece t) → A
+pub not_closed : {A : Type 0} (t : NumberedTree) → 7 ≡ piece_tag (first_piece t) → A
 not_closed (leaf null) e = cc
 not_closed (leaf (boolean b)) e = cc
 not_closed (leaf (integer z)) e = cc
@@ -36,7 +36,7 @@ pub record IsBehindTag (o : OutlineState) (tag : ℕ) (behind : OutlineState) : 
   pub taken : o.tags ≡ tag ∷ behind.tags
   pub slots : behind.slots ≡ o.slots
 
-same_head : {x y : ℕ} {xs ys : List ℕ} → x ∷ xs ≡ y ∷ ys → (x ≡ y) × (xs ≡ ys)
+pub same_head : {x y : ℕ} {xs ys : List ℕ} → x ∷ xs ≡ y ∷ ys → (x ≡ y) × (xs ≡ ys)
 same_head e = (cc, cc)
 
 -- the tag of a token, and of a token without a label all that is behind it
@@ -72,7 +72,7 @@ module _ (names : List Name) (more : List (Token ℕ Scalar)) (o : OutlineState)
 
   -- or a value, that is passed or not
   module _ (passes : Bool) (last : OutlineState) (told : (t : NumberedTree) (more : List (Token ℕ Scalar)) → tag ≡ piece_tag (first_piece t) → IsOutlineOf (behind_first t more) behind → passes ≡ is_ordered names t)
-      (left : (t : NumberedTree) (more : List (Token ℕ Scalar)) → tag ≡ piece_tag (first_piece t) → IsOutlineOf (behind_first t more) behind → IsTrue passes → IsOutlineOf more last) (further : tag ≡ 7 → ⊥) where
+      (left : (t : NumberedTree) (xs : Items ℕ Scalar) → tag ≡ piece_tag (first_piece t) → IsOutlineOf (behind_first t (items_preorder xs ++ token None closed ∷ more)) behind → IsTrue passes → IsBehindOrdered names xs more last) (further : tag ≡ 7 → ⊥) where
     pub items_fail : (xs : Items ℕ Scalar) → IsOutlineOf (items_preorder xs ++ token None closed ∷ more) o → passes ≡ false → false ≡ are_items_ordered names xs
     items_fail no_items is fails = absurd (further (unlabelled closed more o tag behind is step).0)
     items_fail (item t ts) is fails =
@@ -80,12 +80,14 @@ module _ (names : List Name) (more : List (Token ℕ Scalar)) (o : OutlineState)
         let same : is_ordered names t ≡ false = sym (told t (items_preorder ts ++ token None closed ∷ more) here.0 here.1) ∙ fails in
         rw same refl
 
-    pub items_next : (xs : Items ℕ Scalar) → IsOutlineOf (items_preorder xs ++ token None closed ∷ more) o → passes ≡ true → (ys : Items ℕ Scalar) × (are_items_ordered names ys ≡ are_items_ordered names xs) × IsOutlineOf (items_preorder ys ++ token None closed ∷ more) last
+    pub items_next : (xs : Items ℕ Scalar) → IsOutlineOf (items_preorder xs ++ token None closed ∷ more) o → passes ≡ true → IsBehindOrdered names xs more last
     items_next no_items is holds = absurd (further (unlabelled closed more o tag behind is step).0)
     items_next (item t ts) is holds =
         let here = unlabelled (first_piece t) (behind_first t (items_preorder ts ++ token None closed ∷ more)) o tag behind (subst (λ us. IsOutlineOf us o) (first_item t ts (token None closed ∷ more)) is) step in
         let same : is_ordered names t ≡ true = sym (told t (items_preorder ts ++ token None closed ∷ more) here.0 here.1) ∙ holds in
-        (ts, rw same refl, left t (items_preorder ts ++ token None closed ∷ more) here.0 here.1 holds)
+        let rest = left t ts here.0 here.1 holds in
+        let all : are_items_ordered names ts ≡ are_items_ordered names (item t ts) = rw same refl in
+        record { left = rest.left; passed = rest.passed ∙ all; stands = rest.stands }
 
 -- ---- the members of an object
 

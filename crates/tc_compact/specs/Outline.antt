@@ -43,3 +43,9 @@ abbrev mutual
   pub are_members_ordered : List Name → Option Name → Members ℕ Scalar → Bool
   are_members_ordered names last no_members = true
   are_members_ordered names last (member k t ms) = is_above last (name_at names k) && (is_ordered names t && are_members_ordered names (Some (name_at names k)) ms)
+
+-- what is left of the items of an array once some of them were passed, whose names ascend
+pub record IsBehindOrdered (names : List Name) (xs : Items ℕ Scalar) (more : List (Token ℕ Scalar)) (o : OutlineState) : Type 0 where
+  pub left : Items ℕ Scalar
+  pub passed : are_items_ordered names left ≡ are_items_ordered names xs
+  pub stands : IsOutlineOf (items_preorder left ++ token None closed ∷ more) o
