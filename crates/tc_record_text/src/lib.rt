@@ -1,12 +1,14 @@
 //! Layer 2, records: the JSON text of what a record spells, put after other text without making its document.
 #![tactic(auto)]
 
+mod flat_rows;
 mod keyed;
 mod labels;
 mod memo;
 mod reaching;
 mod rows;
 mod skipping;
+mod staged;
 mod values;
 
 pub use keyed::{put_document, text_of_document};

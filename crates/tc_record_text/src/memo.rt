@@ -32,6 +32,12 @@ pub(crate) struct Kept {
     text: Vec<u8>,
 }
 
+/// How often items are looked at in vain, whether they are alike.
+const MOST_LOOKS: u8 = 8;
+
+/// So many rows are worth a look.
+const FEW_ROWS: usize = 4;
+
 /// Labels that are kept. To keep one costs more than to put it once again, and in most records no name comes twice. So none is
 /// kept of a small record, and of a large one only those in items of an array behind the first one.
 #[derive(Drop)]
@@ -43,6 +49,8 @@ pub(crate) struct LabelMemo {
     large: bool,
     // whether what is put stands in an item behind the first one of its array
     pub(crate) repeats: bool,
+    // how often items that are alike are still looked for
+    looks: u8,
 }
 
 impl LabelMemo {
@@ -63,6 +71,22 @@ impl LabelMemo {
             places: [NOWHERE; PLACES],
             large: tokens > FEW_TOKENS,
             repeats: false,
+            looks: MOST_LOOKS,
+        }
+    }
+
+    /// Whether the items of an array are worth to be looked at, whether they are alike.
+    #[inline(always)]
+    pub(crate) fn looks_for_rows(&self) -> bool {
+        self.large && self.looks > 0
+    }
+
+    /// Counts one look that found so many rows. Few rows are not worth it.
+    pub(crate) fn count_look(&mut self, rows: usize)
+        ensures { self.new.kept ≡ self.old.kept }
+    {
+        if rows < FEW_ROWS {
+            self.looks = self.looks.saturating_sub(1);
         }
     }
 

@@ -1,6 +1,6 @@
 //! The text of values in a record.
 
-ghost use Rattle.std.specs.Prelude.{◌≡◌, ◌≤◌, ◌++◌, OnOk, IfSome, false, length, map};
+ghost use Rattle.std.specs.Prelude.{◌≡◌, ◌≤◌, ◌++◌, OnOk, IfSome, true, false, length, map};
 ghost use Rattle.serde_json.specs.Written.{compact_text, items_text, members_text};
 ghost use Rattle.tc_model.specs.Json.{data_of, items_data, members_data};
 ghost use Rattle.tc_model.specs.Tree.{items_of, members_of};
@@ -9,6 +9,7 @@ ghost use Rattle.tc_record.specs.Building.{innermost, outer, value_in, member_in
 ghost use Rattle.tc_compact.specs.Meant.{levels_meant};
 ghost use Rattle.tc_record_text.specs.KeptLabels.{AreLabels};
 
+use crate::flat_rows::{FlatRow, OBJECT_TAG, put_rows};
 use crate::labels::closes;
 use crate::memo::{LabelMemo, put_label};
 use std::alloc::AllocError;
@@ -76,8 +77,40 @@ fn put_items(
         put_value(cursor, token, names, memo, out)?;
         later = true;
         memo.repeats = true;
+        if memo.looks_for_rows() && opens_object(cursor) {
+            put_alike(cursor, names, memo, out)?;
+        }
     }
     put_mark(b']', out)
+}
+
+/// Whether the next token opens an object, as its tag tells.
+#[inline(always)]
+fn opens_object(cursor: &Cursor<'_>) -> bool {
+    let tags = cursor.tags();
+    !tags.is_empty() && tags[0] == OBJECT_TAG
+}
+
+/// Puts the items that stand next and are alike, each behind a comma, where they are objects of few scalars.
+#[inline(never)]
+fn put_alike(
+    cursor: &mut Cursor<'_>,
+    names: &Names,
+    memo: &mut LabelMemo,
+    out: &mut Vec<u8>,
+) -> Result<(), AllocError>
+    requires { AreLabels names.now memo.old.kept.items }
+    ensures text { OnOk result (out.new.items ++ items_text true (items_data (items_of (map value_in (innermost (levels_meant names.now cursor.new))))) ≡ out.old.items ++ items_text true (items_data (items_of (map value_in (innermost (levels_meant names.now cursor.old)))))) }
+    ensures outer { OnOk result (outer (levels_meant names.now cursor.new) ≡ outer (levels_meant names.now cursor.old)) }
+    ensures shorter { length cursor.new ≤ length cursor.old }
+    ensures labels { AreLabels names.now memo.new.kept.items }
+{
+    let rows = match FlatRow::of(cursor, names, *out.allocator()) {
+        Some(row) => put_rows(cursor, &row, names, out)?,
+        None => 0,
+    };
+    memo.count_look(rows);
+    Ok(())
 }
 
 /// Puts the members up to the close of their object, and its bracket, after a comma if a member stands before them.
