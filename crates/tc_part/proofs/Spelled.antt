@@ -1,9 +1,13 @@
 -- What the bytes at the place of an entry spell.
-use Rattle.std.proofs.Common.{◌≡◌, ℕ, Bool, true, false, List, Option, Some, None, inl, inr, refl}
+use Rattle.std.proofs.Common.{◌≡◌, ◌∙◌, ℕ, List, Option, Some, None, inl, inr, refl, sym}
 use Rattle.std.specs.Prelude.{Result, Ok, Err, IfOk, IfSome}
 use Rattle.tc_model.specs.Document.{Name, Document}
-use Rattle.tc_record.specs.Record.{NumberedTree, IsRecordOf, IsNumberedRecordIn}
+use Rattle.tc_record.specs.Borrowed.{named_tokens, numbered_tokens}
+use Rattle.tc_record.specs.Record.{IsNumberedForm}
+use Rattle.tc_record.proofs.Reading.{document_again, numbered_again}
+use Rattle.tc_compact.specs.Compacted.{compacted}
 use Rattle.tc_compact.specs.Meant.{IsRecordUnder}
+use Rattle.tc_compact.proofs.Compacts.{two_forms}
 use Rattle.tc_component.specs.Meaning.{IsRecordOfOne}
 use Rattle.tc_store.specs.declared.damage.Damage.TheVariants.{Bytes, Files}
 use Rattle.tc_store.specs.declared.file_name.FileName.{FileName}
@@ -19,13 +23,10 @@ of_read_then Spent P Q f is = absurd is
 of_read_then Memory P Q f is = tt
 
 -- where a record with numbers is that of one document, no other one is meant
-pub one_under : (version : ℕ) (names : List Name) (d e : Document) (bytes : List ℕ) (named : Bool) → ((x : Document) → IsRecordOf x bytes → named ≡ true) → ((n : NumberedTree) → IsNumberedRecordIn version n bytes → named ≡ false)
-    → IsRecordOfOne version names d bytes → IsRecordUnder names e bytes → e ≡ d
-one_under version names d e bytes named with_names with_numbers one (inl is) =
-    let yes = with_names e is in
-    let no = with_numbers _ one.record_is.numbered in
-    absurd (cc)
-one_under version names d e bytes named with_names with_numbers one (inr is) = one.one e is.0 is.1 is.2
+pub one_under : (version : ℕ) (names : List Name) (d e : Document) (bytes : List ℕ) → IsNumberedForm version → IsRecordOfOne version names d bytes → IsRecordUnder names e bytes → e ≡ d
+one_under version names d e bytes told one (inl is) =
+    absurd (two_forms version (named_tokens e) (numbered_tokens (compacted names d)) (sym (document_again e bytes is) ∙ numbered_again version told (compacted names d) bytes one.record_is.numbered))
+one_under version names d e bytes told one (inr is) = one.one e is.0 is.1 is.2
 
 pub if_some_then : {A : Type 0} (o : Option A) (P Q : A → Type 0) → ((x : A) → P x → Q x) → IfSome o P → IfSome o Q
 if_some_then None P Q f p = tt

@@ -17,7 +17,7 @@ use std::alloc::Global;
 use tc_bytes::Bytes;
 use tc_compact::shape_of;
 use tc_component::{Component, Place};
-use tc_record::{RecordFault, RecordRef};
+use tc_record::RecordFault;
 use tc_record_text::text_of_document;
 use tc_store::Frozen;
 use tc_value::Shape;
@@ -37,9 +37,12 @@ pub fn shape_at<F: Frozen>(
     ensures counted { IsCountedOnce (IsErrOf result PartFault.Disk) (IsOk result) (F.Watch.counts watch.old) (F.Watch.counts watch.new) }
 {
     let bytes = record_at(alloc, component, place, watch)?;
-    match shape_of(alloc, RecordRef::known(bytes.as_slice()), component.names()) {
-        Ok(shape) => Ok(shape),
-        Err(fault) => Err(no_document(component, place, bytes, fault)),
+    match component.found(bytes.as_slice()) {
+        Some(found) => match shape_of(alloc, found, component.names()) {
+            Ok(shape) => Ok(shape),
+            Err(fault) => Err(no_document(component, place, bytes, fault)),
+        },
+        None => Err(no_document(component, place, bytes, RecordFault::NotARecord)),
     }
 }
 
@@ -59,18 +62,16 @@ pub(crate) fn text_at<F: Frozen>(
     ensures counted { IsCountedOnce (IsErrOf result PartFault.Disk) (IsOk result) (F.Watch.counts watch.old) (F.Watch.counts watch.new) }
 {
     let bytes = record_at(alloc, component, place, watch)?;
-    match text_of_document(
-        alloc,
-        key,
-        RecordRef::known(bytes.as_slice()),
-        component.names(),
-    ) {
-        Ok(text) => Ok(text),
-        Err(fault) => Err(no_document(component, place, bytes, fault)),
+    match component.found(bytes.as_slice()) {
+        Some(found) => match text_of_document(alloc, key, found, component.names()) {
+            Ok(text) => Ok(text),
+            Err(fault) => Err(no_document(component, place, bytes, fault)),
+        },
+        None => Err(no_document(component, place, bytes, RecordFault::NotARecord)),
     }
 }
 
-/// The record at a place of a component, by one read.
+/// The bytes at a place of a component, by one read. What they are is not looked at.
 fn record_at<F: Frozen>(
     alloc: Global,
     component: &Component<F>,
@@ -79,17 +80,17 @@ fn record_at<F: Frozen>(
 ) -> Result<Bytes, PartFault>
     requires { IsPlace component.now.index.slots place }
     ensures read { IfOk result (λ read. IfSome (F.content component.now.file) (λ whole. read ≡ bytes_of_record component.now.index.slots place.at whole)) }
-    ensures found { IfOk result (λ read. (length read ≡ length_at component.now.index.slots place.at) × IsRecordWithin component.now.index.version (length component.now.index.names) read) }
+    ensures long { IfOk result (λ read. length read ≡ length_at component.now.index.slots place.at) }
     ensures harmed { IfErr result (λ fault. IsOfRead fault (λ file at bytes. IsHarmOf (λ file. F.content file) component.now file at bytes)) }
     ensures counted { IsCountedOnce (IsErrOf result PartFault.Disk) (IsOk result) (F.Watch.counts watch.old) (F.Watch.counts watch.new) }
 {
-    match component.fetch(alloc, place, watch) {
+    match component.read_record(alloc, place, watch) {
         Ok(bytes) => Ok(bytes),
         Err(fault) => Err(of_read(component.file_name(), fault)),
     }
 }
 
-/// Why a record gave no document under the names of its component.
+/// Why the bytes at a place of a component gave no document under its names.
 fn no_document<F: Frozen>(
     component: &Component<F>,
     place: Place,
@@ -99,7 +100,7 @@ fn no_document<F: Frozen>(
     requires place { IsPlace component.now.index.slots place }
     requires read { IfSome (F.content component.now.file) (λ whole. bytes ≡ bytes_of_record component.now.index.slots place.at whole) }
     requires long { length bytes ≡ length_at component.now.index.slots place.at }
-    requires cause { fault ≡ RecordFault.NotARecord → (d : Document) → IsRecordUnder component.now.index.names d bytes → ⊥ }
+    requires cause { fault ≡ RecordFault.NotARecord → (IsRecordWithin component.now.index.version (length component.now.index.names) bytes → ⊥) ⊎ ((d : Document) → IsRecordUnder component.now.index.names d bytes → ⊥) }
     ensures cause { result ≡ PartFault.Disk → ⊥ }
     ensures harmed { IsOfRead result (λ file at bytes. IsHarmOf (λ file. F.content file) component.now file at bytes) }
 {

@@ -1,7 +1,8 @@
-use Rattle.std.proofs.Common.{◌≡◌, ◌∙◌, length, inr, sym, subst}
+use Rattle.std.proofs.Common.{◌≡◌, ◌∙◌, ◌⊎◌, length, sym, subst}
 use Rattle.std.specs.Prelude.{IfSome}
+use Rattle.tc_model.specs.Document.{Document}
 use Rattle.tc_compact.specs.Meant.{IsRecordUnder}
-use Rattle.tc_component.specs.Fetching.{record_at, length_at}
+use Rattle.tc_component.specs.Fetching.{record_at, length_at, IsRecordWithin}
 use Rattle.tc_part.proofs.Spelled.{of_read_then}
 use Rattle.tc_part.proofs.records.no_document.Goals as goal
 
@@ -15,7 +16,7 @@ returns-clause-harmed g c =
       file_is = is.0 ∙ c.file_name.ensures;
       place_is = is.1 ∙ c.record_range-at.ensures.begin;
       long = subst (λ b. length b ≡ length_at component.index.slots c.args.place.at) (sym is.2) c.requires.long;
-      broken = inr (λ d. subst (λ b. IsRecordUnder component.index.names d b → ⊥) (sym is.2) (c.requires.cause is.3 d));
+      broken = subst (λ b. (IsRecordWithin component.index.version (length component.index.names) b → ⊥) ⊎ ((d : Document) → IsRecordUnder component.index.names d b → ⊥)) (sym is.2) (c.requires.cause is.3);
       told = subst (λ b. IfSome (g.F.Frozen.content component.file) (λ whole. b ≡ record_at component.index.slots c.args.place.at whole)) (sym is.2) c.requires.read;
     })
     c.of_record.ensures.harmed
