@@ -1,6 +1,6 @@
 //! The columns of a record that is being written.
 
-ghost use Rattle.std.specs.Prelude.{◌≡◌, [], Some, OnOk, IfOk};
+ghost use Rattle.std.specs.Prelude.{◌≡◌, ◌∷◌, [], Some, OnOk, IfOk};
 ghost use Rattle.tc_model.specs.Document.{text};
 ghost use Rattle.tc_record.specs.Preorder.{scalar};
 ghost use Rattle.tc_record.specs.Measured.{column_width};
@@ -61,6 +61,16 @@ impl Columns {
         Ok(())
     }
 
+    /// Appends a value of one byte.
+    #[inline(always)]
+    pub(crate) fn put_byte(&mut self, tag: u8, byte: u8) -> Result<(), AllocError>
+        ensures { OnOk result (written self.new ≡ with_value (written self.old) tag (byte ∷ []) []) }
+    {
+        self.tags.push(tag)?;
+        self.fixed.push(byte)?;
+        Ok(())
+    }
+
     /// Appends a value of fixed size.
     pub(crate) fn put_fixed(&mut self, tag: u8, bytes: &[u8]) -> Result<(), AllocError>
         ensures { OnOk result (written self.new ≡ with_value (written self.old) tag bytes.now []) }
@@ -70,6 +80,7 @@ impl Columns {
     }
 
     /// Appends a text.
+    #[inline(always)]
     pub(crate) fn put_text(&mut self, value: &str) -> Result<(), AllocError>
         ensures { OnOk result (written self.new ≡ with_piece (written self.old) (scalar (text value.now))) }
     {

@@ -58,13 +58,15 @@ fn put_header(len: u64, measure: Measure, out: &mut Vec<u8>) -> Result<(), Alloc
     Ok(())
 }
 
+// Built into the two loops below, which take a call for each array and each object: most values are scalars.
+#[inline(always)]
 #[cycle(encode)]
 fn put_value(doc: &Doc, columns: &mut Columns) -> Result<(), AllocError>
     ensures { OnOk result (written columns.new ≡ with_tokens (written columns.old) (preorder None (tree_of doc.now))) }
 {
     match doc {
         Doc::Null => columns.put_tag(NULL_TAG),
-        Doc::Bool(value) => columns.put_fixed(BOOLEAN_TAG, &[u8::from(*value)]),
+        Doc::Bool(value) => columns.put_byte(BOOLEAN_TAG, u8::from(*value)),
         Doc::Int(value) => columns.put_fixed(INTEGER_TAG, &value.to_be_bytes()),
         Doc::Text(value) => columns.put_text(value.as_str()),
         Doc::Array(items) => {
@@ -80,6 +82,7 @@ fn put_value(doc: &Doc, columns: &mut Columns) -> Result<(), AllocError>
     }
 }
 
+#[inline(never)]
 #[cycle(encode)]
 fn put_items(items: &[Doc], columns: &mut Columns) -> Result<(), AllocError>
     ensures { OnOk result (written columns.new ≡ with_tokens (written columns.old) (items_preorder (items_of (map tree_of items.now)))) }
@@ -90,6 +93,7 @@ fn put_items(items: &[Doc], columns: &mut Columns) -> Result<(), AllocError>
     Ok(())
 }
 
+#[inline(never)]
 #[cycle(encode)]
 fn put_members(members: &[Member], columns: &mut Columns) -> Result<(), AllocError>
     ensures { OnOk result (written columns.new ≡ with_tokens (written columns.old) (members_preorder (members_of (map member_of members.now)))) }

@@ -82,6 +82,9 @@ fn with_name(so_far: Measure, len: usize) -> Measure
     measure
 }
 
+// Built into the two loops below, which take a call for each array and each object: most values are scalars, and a call for
+// each of those would move all sums through memory.
+#[inline(always)]
 #[cycle(measure)]
 fn with_value(doc: &Doc, so_far: Measure) -> Measure
     ensures measured { result ≡ measured so_far (preorder None (tree_of doc.now)) }
@@ -102,6 +105,7 @@ fn with_value(doc: &Doc, so_far: Measure) -> Measure
     }
 }
 
+#[inline(never)]
 #[cycle(measure)]
 fn with_items(items: &[Doc], so_far: Measure) -> Measure
     ensures measured { result ≡ measured so_far (items_preorder (items_of (map tree_of items.now))) }
@@ -114,6 +118,7 @@ fn with_items(items: &[Doc], so_far: Measure) -> Measure
     measure
 }
 
+#[inline(never)]
 #[cycle(measure)]
 fn with_members(members: &[Member], so_far: Measure) -> Measure
     ensures measured { result ≡ measured so_far (members_preorder (members_of (map member_of members.now))) }
