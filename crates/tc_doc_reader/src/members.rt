@@ -101,6 +101,8 @@ fn row_of(count: usize, levels: u32) -> usize
 }
 
 /// The members in the byte order of their names, or `None` where two have one name.
+// Kept out of the loop that reads members, which would carry what is needed here from member to member.
+#[inline(never)]
 pub(crate) fn in_order(
     mut found: Vec<Member>,
     orders: &mut Orders,

@@ -55,6 +55,9 @@ impl DocReader {
 }
 
 // The document at the front of what is left, where it nests no deeper than `room`.
+// Built into the two loops below, which take a call for each array and each object: most values are scalars, and a call for
+// each of those would move its value through memory once more.
+#[inline(always)]
 #[cycle(reading)]
 fn read_next(
     alloc: Global,
@@ -110,6 +113,7 @@ fn int_of(number: Option<i64>) -> Option<Doc>
 }
 
 // The items up to the bracket that closes their array, each of which nests no deeper than `room`.
+#[inline(never)]
 #[cycle(reading)]
 fn read_items(
     alloc: Global,
@@ -136,6 +140,7 @@ fn read_items(
 
 // The members up to the brace that closes their object, in the byte order of their names. The same holds of their
 // values.
+#[inline(never)]
 #[cycle(reading)]
 fn read_members(
     alloc: Global,
