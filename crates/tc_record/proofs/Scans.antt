@@ -71,6 +71,20 @@ looked_back number end bytes long window w place least before near =
     the_sum : (whole : ℕ) → place + w ≤ end → end ≤ 8 * whole → 8 * whole - end + (end - (place + w)) ≡ 8 * whole - (place + w)
     the_sum whole before more = omega (arith, before, more)
 
+-- one of several widths
+pub one_width : (w n : ℕ) → 0 < n → (w ≤ w * n) × (w * n - w ≡ w * (n - 1))
+one_width w zero some = absurd (omega (arith, some))
+one_width w (suc n) some = (first w n, rest w n ∙ ap (λ k. w * k) (back n))
+  where
+    first : (w n : ℕ) → w ≤ w * suc n
+    first w n = omega arith
+
+    rest : (w n : ℕ) → w * suc n - w ≡ w * n
+    rest w n = omega arith
+
+    back : (n : ℕ) → n ≡ suc n - 1
+    back n = omega arith
+
 -- all that is left once the last number was read
 pub seen_on : (number seen end v : ℕ) (bytes : List ℕ) → IsSeen number seen end bytes → v ≤ seen → IsSeen (number / 2 ^ v) (seen - v) (end - v) bytes
 seen_on number seen end v bytes all some w place least before near =

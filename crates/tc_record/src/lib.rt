@@ -22,12 +22,12 @@ mod numbers;
 mod passing;
 mod reader;
 mod record_ref;
-mod scan;
 mod sections;
 mod sizing;
 mod stored;
 mod tags;
 mod token;
+mod totals;
 mod walking;
 mod widths;
 

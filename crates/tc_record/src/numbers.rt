@@ -8,7 +8,7 @@ ghost use Rattle.tc_record.specs.NumbersLeft.{elements_from, HasWidth, IsSeen};
 use tc_bits::{number_from, window_before};
 
 /// How many bits are seen at least by one look at eight bytes, wherever they begin.
-const MOST_SEEN: u64 = 56;
+pub(crate) const MOST_SEEN: u64 = 56;
 
 /// Numbers of so many bits each, from a place in the bytes of a record on. After a header there are always eight bytes to look
 /// back at.
@@ -159,7 +159,7 @@ impl<'a> Numbers<'a> {
 /// So many bits that end after so many in all, as a number: by one look at the eight bytes of which the last one has the last of
 /// these bits.
 #[inline(always)]
-fn bits_before(bytes: &[u8], end: u64, bits: u64) -> u64
+pub(crate) fn bits_before(bytes: &[u8], end: u64, bits: u64) -> u64
     requires long { 64 ≤ end }
     requires number { end < 2 ^ 60 }
     requires room { end ≤ 8 * length bytes.now }

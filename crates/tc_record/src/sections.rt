@@ -1,6 +1,6 @@
 //! The bytes of a record, cut into its columns.
 
-ghost use Rattle.std.specs.Prelude.{◌≡◌, ◌≤◌, ◌<◌, ◌*◌, ◌^◌, max, option_map, length, IfSome, IfNone};
+ghost use Rattle.std.specs.Prelude.{◌≡◌, ◌≤◌, ◌<◌, ◌*◌, ◌^◌, option_map, length, IfSome, IfNone};
 ghost use Rattle.std.specs.Str.{IsUtf8};
 ghost use Rattle.tc_record.specs.Held.{TellsGreatest};
 ghost use Rattle.tc_record.specs.Record.{spelling_of, greatest};
@@ -12,7 +12,7 @@ use crate::column_sizes::least_width;
 use crate::header::{Header, PACKED_FORM, form_told, header_in};
 use crate::numbers::Numbers;
 use crate::reader::{Columns, Format};
-use crate::scan::Scan;
+use crate::totals::add_up;
 use std::str;
 use tc_bits::{Columns as BitColumns, size_of_column};
 use tc_bytes::slice_at;
@@ -132,7 +132,9 @@ impl<'a> ColumnBytes<'a> {
     }
 }
 
-/// So many numbers from the front of the bytes that end a record, if the width that is told is the least for them.
+/// So many numbers from the front of the bytes that end a record, if the width that is told is the least for them. It is built into
+/// its callers, since one of them does not ask for the sum, which is then not made.
+#[inline(always)]
 fn numbers_in<'a>(
     form: u8,
     whole: &'a [u8],
@@ -155,7 +157,7 @@ fn numbers_in<'a>(
         place: 8 * (whole.len() - bytes.len()) as u64,
         left: count,
     };
-    let (greatest, total) = scanned(numbers);
+    let (greatest, total) = add_up(numbers);
     if told != least_width(form, count, greatest) {
         return None;
     }
@@ -194,25 +196,4 @@ fn bits_of_bytes(told: u8) -> Option<u8>
     ensures beyond { IfNone result (32 < 8 * told) }
 {
     if told <= 4 { Some(8 * told) } else { None }
-}
-
-/// The greatest of numbers, and their sum, which stands still at the end of its type.
-fn scanned(numbers: Numbers<'_>) -> (u32, u32)
-    ensures most { result.0 ≡ greatest (numbers_of numbers.entry) }
-    ensures all { result.1 ≡ capped_sum (numbers_of numbers.entry) }
-{
-    let mut scan = Scan::of(numbers);
-    let mut greatest = 0;
-    let mut total = 0u32;
-    while let Some(number) = scan.next_back() {
-        greatest = larger(greatest, number);
-        total = total.saturating_add(number);
-    }
-    (greatest, total)
-}
-
-fn larger(number: u32, other: u32) -> u32
-    ensures { result ≡ max number other }
-{
-    number.max(other)
 }

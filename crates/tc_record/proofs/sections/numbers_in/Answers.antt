@@ -18,7 +18,7 @@ returns-then-told-least_width-clause-read c =
     let each : IsBytes bytes = λ i. (c.type_inv.bytes i).fits in
     let cut : bytes_at (column_size c.args.count w) bytes ≡ Some (c.in_ok-column.column.now, c.in_ok-column.rest.now) = ap (λ n. bytes_at n bytes) (sym c.size_of_column.ensures) ∙ sym c.slice_at.ensures ∙ rw c.in_ok-column.was refl in
     let is : is_column w c.args.count c.in_ok-column.column.now ≡ true = sym c.of.ensures.judged ∙ rw c.in_ok-_judged.was refl in
-    let least = least_is (spelling_of c.args.form) w (8 * (length whole - length bytes)) c.args.count whole _ _ c.scanned-greatest.ensures.most c.least_width.ensures in
+    let least = least_is (spelling_of c.args.form) w (8 * (length whole - length bytes)) c.args.count whole _ _ c.add_up-greatest.ensures.most c.least_width.ensures in
     sym (column_wide (spelling_of c.args.form) whole bytes c.in_ok-column.column.now c.in_ok-column.rest.now c.args.told c.args.count w each c.requires.tail c.in_ok-width.ensures.same cut is (λ same. c.if-told-least_width.true (same ∙ sym least)))
 
 pub returns-clause-read : goal.returns-clause-read
@@ -29,5 +29,5 @@ returns-clause-read c =
     let each : IsBytes bytes = λ i. (c.type_inv.bytes i).fits in
     let cut : bytes_at (column_size c.args.count w) bytes ≡ Some (c.in_ok-column.column.now, c.in_ok-column.rest.now) = ap (λ n. bytes_at n bytes) (sym c.size_of_column.ensures) ∙ sym c.slice_at.ensures ∙ rw c.in_ok-column.was refl in
     let is : is_column w c.args.count c.in_ok-column.column.now ≡ true = sym c.of.ensures.judged ∙ rw c.in_ok-_judged.was refl in
-    let least = least_is (spelling_of c.args.form) w (8 * (length whole - length bytes)) c.args.count whole _ _ c.scanned-greatest.ensures.most c.least_width.ensures in
+    let least = least_is (spelling_of c.args.form) w (8 * (length whole - length bytes)) c.args.count whole _ _ c.add_up-greatest.ensures.most c.least_width.ensures in
     sym (column_read (spelling_of c.args.form) whole bytes c.in_ok-column.column.now c.in_ok-column.rest.now c.args.told c.args.count w each c.requires.tail c.in_ok-width.ensures.same cut is (c.if-told-least_width.false ∙ least))
