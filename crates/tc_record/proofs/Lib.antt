@@ -22,6 +22,7 @@ pub mod Spellings
 pub mod ColumnSizes
 pub mod NumberColumns
 pub mod Placed
+mod AsciiTexts
 mod Scans
 mod Alike
 mod LabelsLeft

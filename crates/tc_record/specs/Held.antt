@@ -1,5 +1,6 @@
 -- What a borrowed record and a cursor are seen as.
-use Rattle.std.specs.Prelude.{◌≡◌, ℕ, ◌==◌, Bool, true, false, if◌then◌else◌, List, [], ◌∷◌, Option, None, Some}
+use Rattle.std.specs.Prelude.{◌≡◌, ℕ, ◌==◌, Bool, true, false, if◌then◌else◌, List, [], ◌∷◌, Option, None, Some, length}
+use Rattle.std.specs.List.{sum}
 use Rattle.tc_bytes.specs.Reading.{◌>>=◌}
 use Rattle.tc_model.specs.Document.{Scalar}
 use Rattle.tc_model.specs.Kinds.{tag as kind_tag, objects}
@@ -19,6 +20,10 @@ tokens_held s = walk.tokens_read (format_of s.format) s.tags.now (cut_columns_of
 -- the greatest of the slots is told, and the greatest of the lengths of texts
 abbrev pub TellsGreatest : Sections → Type 0
 TellsGreatest s = (s.greatest_slot ≡ greatest (numbers_of s.columns.slots)) × (s.greatest_length ≡ greatest (numbers_of s.columns.lengths))
+
+-- the texts together are as long as their lengths say
+abbrev pub TextsAddUp : Sections → Type 0
+TextsAddUp s = sum (numbers_of s.columns.lengths) ≡ length s.columns.texts.now
 
 -- the tokens that are left, where the first one was taken, and where it was not
 abbrev pub tokens_left : Bool → List ℕ → Walk → Option (List (Token walk.Key Scalar))

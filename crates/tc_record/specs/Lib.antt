@@ -11,6 +11,7 @@ pub mod Walk
 pub mod NumbersLeft
 pub mod NameColumn
 pub mod WalkView
+pub mod AsciiTexts
 pub mod FlatRows
 pub mod Moves
 pub mod Stack

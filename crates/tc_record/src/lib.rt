@@ -12,6 +12,7 @@ mod fault;
 mod flat_rows;
 mod header;
 mod judging;
+mod judging_ascii;
 mod judging_numbers;
 mod kinds;
 mod law;

@@ -2,7 +2,7 @@
 
 ghost use Rattle.std.specs.Prelude.{◌≡◌, ◌≤◌, ◌<◌, ◌*◌, ◌^◌, option_map, length, IfSome, IfNone};
 ghost use Rattle.std.specs.Str.{IsUtf8};
-ghost use Rattle.tc_record.specs.Held.{TellsGreatest};
+ghost use Rattle.tc_record.specs.Held.{TellsGreatest, TextsAddUp};
 ghost use Rattle.tc_record.specs.Record.{spelling_of, greatest};
 ghost use Rattle.tc_record.specs.Sections.{IsTail, capped_sum, numbers_at, columns_behind, sections_in};
 ghost use Rattle.tc_record.specs.SectionsView.{header_of, cut_columns_of, sections_of};
@@ -49,6 +49,7 @@ pub(crate) struct Sections<'a> {
 pub(crate) fn sections_of_record(bytes: &[u8]) -> Option<Sections<'_>>
     ensures cut { option_map sections_of result ≡ sections_in bytes.now }
     ensures greatest { IfSome result TellsGreatest }
+    ensures summed { IfSome result TextsAddUp }
 {
     let (header, rest) = header_in(bytes)?;
     if header.total as usize != bytes.len() {
@@ -69,6 +70,7 @@ fn columns_in<'a>(
     requires tail { IsTail whole.now bytes.now }
     ensures cut { option_map sections_of result ≡ columns_behind (header_of header) named bytes.now }
     ensures greatest { IfSome result TellsGreatest }
+    ensures summed { IfSome result TextsAddUp }
 {
     let (tags, bytes) = slice_at(bytes, header.tags as usize)?;
     let (fixed, bytes) = slice_at(bytes, header.fixed as usize)?;
