@@ -54,3 +54,7 @@ pub quotes_put : (o w o1 w1 o2 w2 now text : List ℕ) → o1 ++ w1 ≡ o ++ (w 
 quotes_put o w o1 w1 o2 w2 now text opened put closed plain =
     let opening : o2 ++ w2 ≡ o ++ (w ++ 34 ∷ text) = both_put o w o1 w1 o2 w2 (34 ∷ []) text opened put in
     closed ∙ waits o (w ++ 34 ∷ text) o2 w2 (34 ∷ []) opening ∙ ap (λ l. o ++ l) (append_assoc w (34 ∷ text) (34 ∷ [])) ∙ ap (λ l. o ++ (w ++ 34 ∷ (l ++ 34 ∷ []))) (sym plain)
+
+-- a number behind the name of its member
+pub number_put : (o c q n : List ℕ) → (o ++ (c ++ (q ++ 58 ∷ []))) ++ n ≡ o ++ (c ++ (q ++ 58 ∷ n))
+number_put o c q n = append_assoc o (c ++ (q ++ 58 ∷ [])) n ∙ ap (λ s. o ++ s) (append_assoc c (q ++ 58 ∷ []) n ∙ ap (λ s. c ++ s) (append_assoc q (58 ∷ []) n))

@@ -13,6 +13,7 @@ ghost use Rattle.tc_record_text.specs.KeptLabels.{AreLabels};
 
 use crate::labels::{closes, name_of};
 use crate::memo::LabelMemo;
+use crate::sheet::Sheet;
 use crate::skipping::skip;
 use crate::values::{put_members, put_value};
 use std::alloc::{AllocError, Global};
@@ -21,7 +22,6 @@ use tc_bytes::Bytes;
 use tc_compact::{document_meant, spells_document};
 use tc_names::Names;
 use tc_record::{Cursor, Piece, RecordFault, RecordRef};
-use tc_text::{put_key, put_mark, put_name};
 
 /// The text of the document that a record of any form spells under a dictionary, with the member `id` at its place.
 /// `NotARecord` comes exactly where the record spells no document under the dictionary.
@@ -72,7 +72,11 @@ pub fn put_document(
     document_meant();
     let _bytes = of.bytes();
     let mut memo = LabelMemo::new(*out.allocator(), of.token_count());
-    put_tokens(of.cursor(), names, &mut memo, key, out)
+    let mut sheet = Sheet::of(out);
+    let put = put_tokens(of.cursor(), names, &mut memo, key, &mut sheet);
+    let back = sheet.give_back(out);
+    put?;
+    back
 }
 
 // The text of the value whose tokens these are.
@@ -81,10 +85,10 @@ fn put_tokens(
     names: &Names,
     memo: &mut LabelMemo,
     key: u64,
-    out: &mut Vec<u8>,
+    sheet: &mut Sheet,
 ) -> Result<(), AllocError>
     requires { AreLabels names.now memo.old.kept.items }
-    ensures { OnOk result (IfSome (document_read (tokens_meant names.now tokens.entry)) (λ d. out.new.items ≡ out.old.items ++ compact_text (with_id key d))) }
+    ensures { OnOk result (IfSome (document_read (tokens_meant names.now tokens.entry)) (λ d. sheet.new ≡ sheet.old ++ compact_text (with_id key d))) }
 {
     let mut cursor = tokens;
     let Some(token) = cursor.next() else {
@@ -92,10 +96,10 @@ fn put_tokens(
     };
     match token.value {
         Piece::Object => {
-            put_mark(b'{', out)?;
-            put_members_with_key(&mut cursor, names, memo, key, out)
+            sheet.put_byte(b'{')?;
+            put_members_with_key(&mut cursor, names, memo, key, sheet)
         }
-        _other => put_value(&mut cursor, token, names, memo, out),
+        _other => put_value(&mut cursor, token, names, memo, sheet),
     }
 }
 
@@ -105,37 +109,37 @@ fn put_members_with_key(
     names: &Names,
     memo: &mut LabelMemo,
     key: u64,
-    out: &mut Vec<u8>,
+    sheet: &mut Sheet,
 ) -> Result<(), AllocError>
     requires { AreLabels names.now memo.old.kept.items }
-    ensures { OnOk result (out.new.items ≡ out.old.items ++ members_text false (put (codes "id") (count key) (members_data (members_of (map member_in (innermost (levels_meant names.now cursor.old))))))) }
+    ensures { OnOk result (sheet.new ≡ sheet.old ++ members_text false (put (codes "id") (count key) (members_data (members_of (map member_in (innermost (levels_meant names.now cursor.old))))))) }
 {
     let mut later = false;
     while let Some(token) = cursor.next() {
         if closes(token.value) {
-            put_key(later, key, out)?;
-            return put_mark(b'}', out);
+            sheet.put_key(later, key)?;
+            return sheet.put_byte(b'}');
         }
         let name = name_of(token.label, names);
         match "id".cmp(name) {
             Ordering::Less => {
-                put_key(later, key, out)?;
-                put_name(true, name, out)?;
-                put_value(cursor, token, names, memo, out)?;
-                return put_members(true, cursor, names, memo, out);
+                sheet.put_key(later, key)?;
+                sheet.put_name(true, name)?;
+                put_value(cursor, token, names, memo, sheet)?;
+                return put_members(true, cursor, names, memo, sheet);
             }
             Ordering::Equal => {
-                put_key(later, key, out)?;
+                sheet.put_key(later, key)?;
                 skip(cursor, token.value);
-                return put_members(true, cursor, names, memo, out);
+                return put_members(true, cursor, names, memo, sheet);
             }
             Ordering::Greater => {
-                put_name(later, name, out)?;
-                put_value(cursor, token, names, memo, out)?;
+                sheet.put_name(later, name)?;
+                put_value(cursor, token, names, memo, sheet)?;
             }
         }
         later = true;
     }
-    put_key(later, key, out)?;
-    put_mark(b'}', out)
+    sheet.put_key(later, key)?;
+    sheet.put_byte(b'}')
 }

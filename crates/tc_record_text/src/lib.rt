@@ -7,6 +7,7 @@ mod labels;
 mod memo;
 mod reaching;
 mod rows;
+mod sheet;
 mod skipping;
 mod staged;
 mod values;

@@ -11,6 +11,7 @@ ghost use Rattle.tc_record_text.specs.Listed.{comma};
 ghost use Rattle.tc_record_text.specs.KeptLabels.{AreLabels};
 
 use crate::labels::name_of;
+use crate::sheet::Sheet;
 use std::alloc::{AllocError, Global};
 use tc_names::Names;
 use tc_record::Label;
@@ -129,29 +130,29 @@ pub(crate) fn put_label(
     label: Label<'_>,
     names: &Names,
     memo: &mut LabelMemo,
-    out: &mut Vec<u8>,
+    sheet: &mut Sheet,
 ) -> Result<(), AllocError>
     requires { AreLabels names.now memo.old.kept.items }
-    ensures text { OnOk result (out.new.items ≡ out.old.items ++ (comma_if later ++ (quoted (name_told (option_map (key_meant names.now) (key_of label.entry))) ++ 58 ∷ []))) }
+    ensures text { OnOk result (sheet.new ≡ sheet.old ++ (comma_if later ++ (quoted (name_told (option_map (key_meant names.now) (key_of label.entry))) ++ 58 ∷ []))) }
     ensures labels { AreLabels names.now memo.new.kept.items }
 {
     let Label::Number(number) = label else {
-        return put_name(later, name_of(label, names), out);
+        return sheet.put_name(later, name_of(label, names));
     };
     match memo.label_of(number) {
-        Some(text) => put_kept(later, text, out),
-        None => put_new(later, number, name_of(label, names), memo, out),
+        Some(text) => put_kept(later, text, sheet),
+        None => put_new(later, number, name_of(label, names), memo, sheet),
     }
 }
 
 /// Puts a label that is kept behind a comma, and that comma only if a member stands before.
 #[inline(always)]
-fn put_kept(later: bool, text: &[u8], out: &mut Vec<u8>) -> Result<(), AllocError>
-    ensures { (label : List ℕ) → text.now ≡ comma ∷ label → OnOk result (out.new.items ≡ out.old.items ++ (comma_if later ++ label)) }
+fn put_kept(later: bool, text: &[u8], sheet: &mut Sheet) -> Result<(), AllocError>
+    ensures { (label : List ℕ) → text.now ≡ comma ∷ label → OnOk result (sheet.new ≡ sheet.old ++ (comma_if later ++ label)) }
 {
     match text {
-        [_comma, label @ ..] if !later => out.extend_from_slice(label),
-        whole => out.extend_from_slice(whole),
+        [_comma, label @ ..] if !later => sheet.put_bytes(label),
+        whole => sheet.put_bytes(whole),
     }
 }
 
@@ -162,14 +163,14 @@ fn put_new(
     number: u32,
     name: &str,
     memo: &mut LabelMemo,
-    out: &mut Vec<u8>,
+    sheet: &mut Sheet,
 ) -> Result<(), AllocError>
-    ensures text { OnOk result (out.new.items ≡ out.old.items ++ (comma_if later ++ (quoted name.now ++ 58 ∷ []))) }
+    ensures text { OnOk result (sheet.new ≡ sheet.old ++ (comma_if later ++ (quoted name.now ++ 58 ∷ []))) }
     ensures labels { (names : List Name) → name.now ≡ name_at names number → AreLabels names memo.old.kept.items → AreLabels names memo.new.kept.items }
 {
     if memo.large && memo.repeats {
         // a label that there is no memory for is put without being kept
         let _kept = memo.keep(number, name);
     }
-    put_name(later, name, out)
+    sheet.put_name(later, name)
 }

@@ -15,7 +15,7 @@ ghost use Rattle.tc_record_text.specs.Skipped.{is_close};
 use crate::labels::{closes, has_name};
 use crate::memo::LabelMemo;
 use crate::skipping::{skip, skip_to_close};
-use crate::values::put_value;
+use crate::values::put_alone;
 use std::alloc::AllocError;
 use tc_command::Hop;
 use tc_names::Names;
@@ -61,7 +61,7 @@ fn put_from(
 {
     match hops {
         [] => {
-            put_value(cursor, token, names, memo, out)?;
+            put_alone(cursor, token, names, memo, out)?;
             put_mark(b',', out)
         }
         [hop, rest @ ..] => put_hopped(cursor, token.value, names, memo, hop, rest, out),

@@ -2,6 +2,7 @@
 
 ghost use Rattle.std.specs.Prelude.{◌≡◌, ◌+◌, ◌≤◌, ◌∷◌, ◌++◌, [], take, length, OnOk};
 ghost use Rattle.json.specs.Print.{quoted};
+ghost use Rattle.serde_json.specs.Data.{number, unsigned};
 ghost use Rattle.serde_json.specs.Written.{compact_text};
 ghost use Rattle.tc_model.specs.Document.{Scalar};
 ghost use Rattle.tc_model.specs.Json.{scalar_data};
@@ -50,6 +51,7 @@ impl Model for Staged {
 
 impl Staged {
     /// Nothing waits. Takes no memory.
+    #[inline(always)]
     pub(crate) fn new() -> Staged
         ensures { result ≡ [] }
     {
@@ -122,6 +124,26 @@ impl Staged {
         Ok(())
     }
 
+    /// Puts bytes as they are. Many of them go to their place at once.
+    #[inline(always)]
+    pub(crate) fn put_any(&mut self, text: &[u8], out: &mut Vec<u8>) -> Result<(), AllocError>
+        ensures { OnOk result (out.new.items ++ self.new ≡ out.old.items ++ (self.old ++ text.now)) }
+    {
+        if text.len() > MOST_WAITING {
+            self.put_out(out)?;
+            return out.extend_from_slice(text);
+        }
+        self.put_bytes(text, out)
+    }
+
+    /// Puts a number that is not negative in decimal digits.
+    pub(crate) fn put_unsigned(&mut self, value: u64, out: &mut Vec<u8>) -> Result<(), AllocError>
+        ensures { OnOk result (out.new.items ++ self.new ≡ out.old.items ++ (self.old ++ compact_text (number (unsigned value)))) }
+    {
+        let mut digits = Buffer::new();
+        self.put_bytes(digits.format(value).as_bytes(), out)
+    }
+
     /// Puts the text of a scalar. A piece that is none puts nothing.
     #[inline(always)]
     pub(crate) fn put_scalar(
@@ -148,7 +170,7 @@ impl Staged {
 
     /// Puts a text between quotes, with its escapes. One that has some, or is long, goes to its place at once.
     #[inline(always)]
-    fn put_text(&mut self, text: &str, out: &mut Vec<u8>) -> Result<(), AllocError>
+    pub(crate) fn put_text(&mut self, text: &str, out: &mut Vec<u8>) -> Result<(), AllocError>
         ensures { OnOk result (out.new.items ++ self.new ≡ out.old.items ++ (self.old ++ quoted text.now)) }
     {
         let bytes = text.as_bytes();

@@ -11,8 +11,8 @@ use Rattle.tc_record_text.proofs.keyed.put_members_with_key.Given as goal
 
 abbrev pub invariant-loop-token : goal.invariant-loop-token
 invariant-loop-token l = record {
-  text : l.out.items ++ members_text l.later (put (codes "id") (count l.key) (members_data (members_of (map member_in (innermost (levels_meant l.names l.cursor))))))
-      ≡ l.fn.out.items ++ members_text false (put (codes "id") (count l.key) (members_data (members_of (map member_in (innermost (levels_meant l.names l.fn.cursor))))));
+  text : l.sheet ++ members_text l.later (put (codes "id") (count l.key) (members_data (members_of (map member_in (innermost (levels_meant l.names l.cursor))))))
+      ≡ l.fn.sheet ++ members_text false (put (codes "id") (count l.key) (members_data (members_of (map member_in (innermost (levels_meant l.names l.fn.cursor))))));
   labels : AreLabels l.names l.memo.kept.items;
 }
 

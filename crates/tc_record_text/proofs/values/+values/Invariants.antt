@@ -18,7 +18,7 @@ decreases-put_members l = 2 * length l.cursor.now
 
 abbrev pub invariant-put_items-loop-token : goal.invariant-put_items-loop-token
 invariant-put_items-loop-token l = record {
-  text : l.out.items ++ items_text l.later (items_data (items_of (map value_in (innermost (levels_meant l.names l.cursor))))) ≡ l.fn.out.items ++ items_text false (items_data (items_of (map value_in (innermost (levels_meant l.names l.fn.cursor)))));
+  text : l.sheet ++ items_text l.later (items_data (items_of (map value_in (innermost (levels_meant l.names l.cursor))))) ≡ l.fn.sheet ++ items_text false (items_data (items_of (map value_in (innermost (levels_meant l.names l.fn.cursor)))));
   outer : outer (levels_meant l.names l.cursor) ≡ outer (levels_meant l.names l.fn.cursor);
   shorter : length l.cursor ≤ length l.fn.cursor;
   labels : AreLabels l.names l.memo.kept.items;
@@ -29,7 +29,7 @@ decreases-put_items-loop-token l = length l.cursor
 
 abbrev pub invariant-put_members-loop-token : goal.invariant-put_members-loop-token
 invariant-put_members-loop-token l = record {
-  text : l.out.items ++ members_text l.later (members_data (members_of (map member_in (innermost (levels_meant l.names l.cursor))))) ≡ l.fn.out.items ++ members_text l.before (members_data (members_of (map member_in (innermost (levels_meant l.names l.fn.cursor)))));
+  text : l.sheet ++ members_text l.later (members_data (members_of (map member_in (innermost (levels_meant l.names l.cursor))))) ≡ l.fn.sheet ++ members_text l.before (members_data (members_of (map member_in (innermost (levels_meant l.names l.fn.cursor)))));
   outer : outer (levels_meant l.names l.cursor) ≡ outer (levels_meant l.names l.fn.cursor);
   shorter : length l.cursor ≤ length l.fn.cursor;
   labels : AreLabels l.names l.memo.kept.items;
