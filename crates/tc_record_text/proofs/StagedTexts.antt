@@ -2,7 +2,6 @@
 use Rattle.std.proofs.Common.{◌≡◌, ◌∙◌, ◌+◌, ◌<◌, ◌≤◌, ℕ, List, [], ◌∷◌, ◌++◌, length, get_or, take, drop, map, arith, sym, ap, ap₂, append_assoc, length-take-le}
 use Rattle.std.proofs.lemmas.List.{drop_more, get_or-map, length-map}
 use Rattle.json.specs.Filled.{Placed}
-use Rattle.json.specs.Print.{escape, quoted}
 use Rattle.serde_json.specs.Written.{compact_text}
 use Rattle.tc_model.specs.Document.{Scalar, null}
 use Rattle.tc_model.specs.Json.{scalar_data}
@@ -48,12 +47,6 @@ room_behind bytes w len n waiting within room = omega (arith, ap length waiting,
 -- a text was written behind what waits
 pub placed_behind : (o w o' w' a b t : List ℕ) (i j : ℕ) → o' ++ w' ≡ o ++ w → take i a ≡ w' → Placed a b i t j → o' ++ take j b ≡ o ++ (w ++ t)
 placed_behind o w o' w' a b t i j same waiting put = ap (λ l. o' ++ l) (put.bytes ∙ ap (λ l. l ++ t) waiting) ∙ waits o w o' w' t same
-
--- a text that needs no escape, between quotes
-pub quotes_put : (o w o1 w1 o2 w2 now text : List ℕ) → o1 ++ w1 ≡ o ++ (w ++ 34 ∷ []) → o2 ++ w2 ≡ o1 ++ (w1 ++ text) → now ≡ o2 ++ (w2 ++ 34 ∷ []) → escape text ≡ text → now ≡ o ++ (w ++ quoted text)
-quotes_put o w o1 w1 o2 w2 now text opened put closed plain =
-    let opening : o2 ++ w2 ≡ o ++ (w ++ 34 ∷ text) = both_put o w o1 w1 o2 w2 (34 ∷ []) text opened put in
-    closed ∙ waits o (w ++ 34 ∷ text) o2 w2 (34 ∷ []) opening ∙ ap (λ l. o ++ l) (append_assoc w (34 ∷ text) (34 ∷ [])) ∙ ap (λ l. o ++ (w ++ 34 ∷ (l ++ 34 ∷ []))) (sym plain)
 
 -- a number behind the name of its member
 pub number_put : (o c q n : List ℕ) → (o ++ (c ++ (q ++ 58 ∷ []))) ++ n ≡ o ++ (c ++ (q ++ 58 ∷ n))

@@ -5,6 +5,7 @@ mod flat_rows;
 mod keyed;
 mod labels;
 mod memo;
+mod places;
 mod reaching;
 mod rows;
 mod sheet;

@@ -100,9 +100,7 @@ impl Sheet {
     pub(crate) fn put_name(&mut self, later: bool, name: &str) -> Result<(), AllocError>
         ensures { OnOk result (self.new ≡ self.old ++ (comma_if later ++ (quoted name.now ++ 58 ∷ []))) }
     {
-        self.put_comma(later)?;
-        self.waiting.put_text(name, &mut self.text)?;
-        self.put_byte(b':')
+        self.waiting.put_name(later, name, &mut self.text)
     }
 
     /// Puts the member `id`, after a comma if a member stands before.

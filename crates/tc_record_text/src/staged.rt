@@ -3,17 +3,18 @@
 ghost use Rattle.std.specs.Prelude.{◌≡◌, ◌+◌, ◌≤◌, ◌∷◌, ◌++◌, [], take, length, OnOk};
 ghost use Rattle.json.specs.Print.{quoted};
 ghost use Rattle.serde_json.specs.Data.{number, unsigned};
-ghost use Rattle.serde_json.specs.Written.{compact_text};
+ghost use Rattle.serde_json.specs.Written.{compact_text, comma_if};
 ghost use Rattle.tc_model.specs.Document.{Scalar};
 ghost use Rattle.tc_model.specs.Json.{scalar_data};
 ghost use Rattle.tc_record.specs.Preorder.{scalar};
 ghost use Rattle.tc_record.specs.WalkView.{piece_of};
 
+use crate::places::{place_byte, place_comma, place_text};
 use itoa::Buffer;
 use std::alloc::AllocError;
 use std::marker::Model;
 use tc_record::Piece;
-use tc_text::{is_plain, put_quoted};
+use tc_text::{is_plain, put_name, put_quoted};
 
 /// How many bytes are gathered at most.
 const ROOM: usize = 1024;
@@ -118,9 +119,7 @@ impl Staged {
         ensures { OnOk result (out.new.items ++ self.new ≡ out.old.items ++ (self.old ++ text.now)) }
     {
         self.make_room(text.len(), out)?;
-        let end = self.len + text.len();
-        self.bytes[self.len..end].copy_from_slice(text);
-        self.len = end;
+        self.len = place_text(&mut self.bytes, self.len, text);
         Ok(())
     }
 
@@ -170,7 +169,7 @@ impl Staged {
 
     /// Puts a text between quotes, with its escapes. One that has some, or is long, goes to its place at once.
     #[inline(always)]
-    pub(crate) fn put_text(&mut self, text: &str, out: &mut Vec<u8>) -> Result<(), AllocError>
+    fn put_text(&mut self, text: &str, out: &mut Vec<u8>) -> Result<(), AllocError>
         ensures { OnOk result (out.new.items ++ self.new ≡ out.old.items ++ (self.old ++ quoted text.now)) }
     {
         let bytes = text.as_bytes();
@@ -178,8 +177,35 @@ impl Staged {
             self.put_out(out)?;
             return put_quoted(text, out);
         }
-        self.put_byte(b'"', out)?;
-        self.put_bytes(bytes, out)?;
-        self.put_byte(b'"', out)
+        self.make_room(bytes.len() + 2, out)?;
+        let at = place_byte(&mut self.bytes, self.len, b'"');
+        let end = place_text(&mut self.bytes, at, bytes);
+        self.len = place_byte(&mut self.bytes, end, b'"');
+        Ok(())
+    }
+
+    /// Puts the name of a member and a colon, after a comma if a member stands before. One that has escapes, or is long, goes to
+    /// its place at once.
+    #[inline(always)]
+    pub(crate) fn put_name(
+        &mut self,
+        later: bool,
+        name: &str,
+        out: &mut Vec<u8>,
+    ) -> Result<(), AllocError>
+        ensures { OnOk result (out.new.items ++ self.new ≡ out.old.items ++ (self.old ++ (comma_if later ++ (quoted name.now ++ 58 ∷ [])))) }
+    {
+        let bytes = name.as_bytes();
+        if bytes.len() > MOST_WAITING || !is_plain(bytes) {
+            self.put_out(out)?;
+            return put_name(later, name, out);
+        }
+        self.make_room(bytes.len() + 4, out)?;
+        let start = place_comma(&mut self.bytes, self.len, later);
+        let at = place_byte(&mut self.bytes, start, b'"');
+        let end = place_text(&mut self.bytes, at, bytes);
+        let behind = place_byte(&mut self.bytes, end, b'"');
+        self.len = place_byte(&mut self.bytes, behind, b':');
+        Ok(())
     }
 }
