@@ -7,4 +7,4 @@ mod scalars;
 
 pub use plain::is_plain;
 pub use quoting::put_quoted;
-pub use scalars::{put_bool, put_comma, put_int, put_key, put_mark, put_name, put_unsigned};
+pub use scalars::{put_bool, put_comma, put_int, put_mark, put_name, put_unsigned};

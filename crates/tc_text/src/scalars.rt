@@ -1,6 +1,6 @@
 //! Marks, names of members, and scalars.
 
-ghost use Rattle.std.specs.Prelude.{◌≡◌, ◌∷◌, [], ◌++◌, codes, OnOk};
+ghost use Rattle.std.specs.Prelude.{◌≡◌, ◌∷◌, [], ◌++◌, OnOk};
 ghost use Rattle.json.specs.Print.{quoted};
 ghost use Rattle.serde_json.specs.Data.{number, unsigned};
 ghost use Rattle.serde_json.specs.Written.{compact_text, comma_if};
@@ -62,12 +62,4 @@ pub fn put_unsigned(value: u64, out: &mut Vec<u8>) -> Result<(), AllocError>
 {
     let mut digits = Buffer::new();
     out.extend_from_slice(digits.format(value).as_bytes())
-}
-
-/// Puts the member `id`, after a comma if a member stands before.
-pub fn put_key(later: bool, key: u64, out: &mut Vec<u8>) -> Result<(), AllocError>
-    ensures { OnOk result (out.new.items ≡ out.old.items ++ (comma_if later ++ (quoted (codes "id") ++ 58 ∷ compact_text (number (unsigned key))))) }
-{
-    put_name(later, "id", out)?;
-    put_unsigned(key, out)
 }
