@@ -1,8 +1,6 @@
 -- Rows that are taken as a whole: what a walk over a record that was judged is behind their tokens.
-use Rattle.std.proofs.Common.{◌≡◌, ◌∙◌, ◌<◌, ◌≤◌, ◌+◌, ℕ, true, false, not, bytes_eq, List, [], ◌∷◌, ◌++◌, Option, None, Some, option_map, is_some, unwrap_or, length, map, take, drop, get_or, refl, sym, ap, arith}
-use Rattle.std.proofs.lemmas.Bool.{not-false}
-use Rattle.std.proofs.lemmas.List.{append_assoc, map-append, length-append, get_or-take, drop_more}
-use Rattle.std.proofs.lemmas.Slice.Eq.{bytes_eq-Decides}
+use Rattle.std.proofs.Common.{◌≡◌, ◌∙◌, ◌<◌, ◌+◌, ℕ, true, List, [], ◌∷◌, ◌++◌, Option, None, Some, option_map, is_some, unwrap_or, length, map, drop, get_or, refl, sym, ap, arith}
+use Rattle.std.proofs.lemmas.List.{append_assoc, map-append, length-append, drop_more}
 use Rattle.tc_bytes.specs.Reading.{◌>>=◌}
 use Rattle.tc_model.specs.Document.{Scalar}
 use Rattle.tc_record.specs.Preorder.{Piece, scalar, object_opened, closed, Token, token}
@@ -12,13 +10,9 @@ use Rattle.tc_record.specs.Walk.{Key, Level, Format, Columns, known_step, known_
 abbrev Tokens : Type 0
 Tokens = List (Token Key Scalar)
 
--- tags that begin alike have the same one next
-pub next_alike : (n i : ℕ) (xs ys : List ℕ) → not (bytes_eq (take n xs) (take n ys)) ≡ false → i < n → n ≤ length xs → drop i xs ≡ get_or ys i 0 ∷ drop (i + 1) xs
-next_alike n i xs ys test within long =
-    drop_more xs i 0 (omega (arith, within, long)) ∙ ap (λ x. x ∷ drop (i + 1) xs) (sym (get_or-take n xs i 0 within) ∙ ap (λ zs. get_or zs i 0) alike ∙ get_or-take n ys i 0 within)
-  where
-    alike : take n xs ≡ take n ys
-    alike = (bytes_eq-Decides (take n xs) (take n ys)).0 (not-false (bytes_eq (take n xs) (take n ys)) test)
+-- where a tag stands, it is the first of those from there on
+pub next_tag : (i tag : ℕ) (tags : List ℕ) → get_or tags i 0 ≡ tag → i < length tags → drop i tags ≡ tag ∷ drop (i + 1) tags
+next_tag i tag tags is within = drop_more tags i 0 within ∙ ap (λ t. t ∷ drop (i + 1) tags) is
 
 -- a token that stands next is the first of those that are left
 walk_on : (f : Format) (tag : ℕ) (tags : List ℕ) (levels inner : List Level) (c after : Columns) (t : Token Key Scalar) → known_step f tag levels c ≡ Some (t, inner, after)

@@ -27,18 +27,22 @@ pub(crate) fn row_taken<'a>(
     ensures stays { IfNone result (walk.new ≡ walk.old) }
 {
     let size = tags.len();
-    if size < 2 || left.len() < size || room.len() < size - 2 || left[..size] != tags[..size] {
+    if size < 2 || left.len() < size || room.len() < size - 2 || walk.format.named {
         return None;
     }
     // a copy, since what each token moves on stays in registers then
     let mut here = *walk;
-    if !opens_object(&mut here, tags[0]) {
+    if left[0] != tags[0] || !opens_object(&mut here, tags[0]) {
         return None;
     }
     for place in 0..size - 2 {
-        room[place] = scalar_in(&mut here, tags[place + 1])?;
+        let tag = tags[place + 1];
+        if left[place + 1] != tag {
+            return None;
+        }
+        room[place] = scalar_in(&mut here, tag)?;
     }
-    if !closes_object(&mut here, tags[size - 1]) {
+    if left[size - 1] != tags[size - 1] || !closes_object(&mut here, tags[size - 1]) {
         return None;
     }
     *walk = here;
