@@ -60,14 +60,13 @@ ahead-none count names name ahead = none (number_of names name) (ahead.before)
     none (Some number) before = absurd (let below = before number refl in omega (arith, below))
 
 -- one name more
-pub index-name : (heads links longer lengthened : List ℕ) (names : List (List ℕ)) (name : List ℕ) → length links < length heads → IsIndex heads links names
+pub index-name : (heads links longer lengthened : List ℕ) (names : List (List ℕ)) (name : List ℕ) → 0 < length heads → IsIndex heads links names
     → longer ≡ slice_set heads (place_of (length heads) name) (suc (length links)) → lengthened ≡ links ++ slice_index_or heads (place_of (length heads) name) 0 ∷ [] → IsIndex longer lengthened (names ++ name ∷ [])
 index-name heads links longer lengthened names name more is set added =
-    let alike = is.count in
     let place = place_of (length heads) name in
-    let within : place < length heads = mod_below (finish (write initial name) / 2 ^ 32) (length heads) (omega (arith, more)) in
+    let within : place < length heads = mod_below (finish (write initial name) / 2 ^ 32) (length heads) more in
     let as_many : length longer ≡ length heads = ap length set ∙ length-set heads place (suc (length links)) in
-    let pushed = index-push heads links (map (place_of (length heads)) names) place (slice_index_or heads place 0) (slice_get-get_or heads place 0 within) (omega (arith, more, alike)) is in
+    let pushed = index-push heads links (map (place_of (length heads)) names) place (slice_index_or heads place 0) (slice_get-get_or heads place 0 within) is in
     let grown : map (place_of (length heads)) (names ++ name ∷ []) ≡ map (place_of (length heads)) names ++ place ∷ [] = map-append (place_of (length heads)) names (name ∷ []) in
     rw (as_many, set, added, is.count, grown) pushed
 

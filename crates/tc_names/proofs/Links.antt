@@ -69,13 +69,13 @@ index-empty heads zeros = record {
   lasts = λ place last at. let none = zeros place last at in record { within = omega (arith, none); here = λ i one. absurd (omega (arith, none, one)); after = λ i from to. absurd (omega (arith, to)) };
   earlier = λ i place last at. cc;
   count = refl;
-  few = omega arith;
+  some = λ more. absurd (omega (arith, more));
 }
 
 -- one element more
-pub index-push : (heads links places : List ℕ) (new last : ℕ) → slice_get heads new ≡ Some last → length places < length heads → IsLinked heads links places
+pub index-push : (heads links places : List ℕ) (new last : ℕ) → slice_get heads new ≡ Some last → IsLinked heads links places
     → IsLinked (slice_set heads new (suc (length places))) (links ++ last ∷ []) (places ++ new ∷ [])
-index-push heads links places new last head more is =
+index-push heads links places new last head is =
     let grown : length (places ++ new ∷ []) ≡ suc (length places) = omega (arith, length_push places new) in
     let longer : length (links ++ last ∷ []) ≡ suc (length links) = omega (arith, length_push links last) in
     let alike = is.count in
@@ -96,5 +96,5 @@ index-push heads links places new last head more is =
             rw (← place-is, ← link-is, same) (last-stays places new new last (length places) (omega arith) (is.lasts new last head)))
       ];
       count = omega (arith, grown, longer, alike);
-      few = omega (arith, grown, more, length-set heads new (suc (length places)));
+      some = λ more. omega (arith, room, length-set heads new (suc (length places)));
     }

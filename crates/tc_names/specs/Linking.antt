@@ -17,7 +17,7 @@ pub record IsLinked (heads links places : List ℕ) : Type 0 where
   pub lasts : (place last : ℕ) → slice_get heads place ≡ Some last → IsLast places place last (length places)
   pub earlier : (i place last : ℕ) → slice_get places i ≡ Some place → slice_get links i ≡ Some last → IsLast places place last i
   pub count : length links ≡ length places
-  pub few : length places ≤ length heads
+  pub some : 0 < length places → 0 < length heads
 
 -- what finds the names
 abbrev pub IsIndex : List ℕ → List ℕ → List (List ℕ) → Type 0

@@ -68,7 +68,7 @@ impl Names {
     {
         Ok(Names {
             texts: Texts::with_room(alloc, count, bytes)?,
-            index: Index::with_places(alloc, count)?,
+            index: Index::with_room(alloc, count)?,
             longest: 0,
             alloc,
         })

@@ -1,6 +1,6 @@
 //! The index that finds the number of a name.
 
-ghost use Rattle.std.specs.Prelude.{◌≡◌, ◌≤◌, ◌<◌, ◌+◌, ◌%◌, ◌^◌, ◌++◌, ◌∷◌, [], suc, length, replicate, slice_get, slice_set, slice_index_or, vec_len, vec_capacity, IfOk, OnOk, OnErr};
+ghost use Rattle.std.specs.Prelude.{◌≡◌, ◌≤◌, ◌<◌, ◌+◌, ◌%◌, ◌^◌, ◌++◌, ◌∷◌, [], suc, false, length, replicate, slice_get, slice_set, slice_index_or, vec_len, vec_capacity, IfOk, OnOk, OnErr};
 ghost use Rattle.std.specs.Hash.FoldHasher.{initial, write, finish};
 ghost use Rattle.tc_model.specs.Dictionary.{number_of, IsDictionary};
 ghost use Rattle.tc_names.specs.Linking.{place_of, IsIndex};
@@ -9,6 +9,12 @@ use crate::texts::Texts;
 use std::alloc::Global;
 use std::hash::{FoldHasher, Hasher};
 use tc_bytes::Memory;
+
+/// Up to so many names have a place each.
+const FEW: usize = 0x1_0000;
+
+/// So many share a place where there are more, and twice as many before there are more places.
+const SHARE: usize = 4;
 
 /// Each name has a place, by its hash. A place has the last of its names, and each name has the one before it at its place.
 /// Both are kept as the number of that name and one, or 0 where there is none.
@@ -30,22 +36,23 @@ impl Index {
         }
     }
 
-    /// No names, with so many places and room for as many names. Errs only for want of memory.
-    pub(crate) fn with_places(alloc: Global, count: usize) -> Result<Index, Memory>
-        ensures heads { IfOk result (λ index. index.heads.items ≡ replicate count 0) }
+    /// No names, with room for so many and places enough for them. Errs only for want of memory.
+    pub(crate) fn with_room(alloc: Global, count: usize) -> Result<Index, Memory>
+        ensures index { IfOk result (λ index. IsIndex index.heads.items index.links.items []) }
+        ensures places { IfOk result (λ index. 0 < count → 0 < length index.heads.items) }
         ensures links { IfOk result (λ index. index.links.items ≡ []) }
         ensures len { IfOk result (λ index. vec_len index.links ≡ 0) }
         ensures room { IfOk result (λ index. count ≤ vec_capacity index.links) }
     {
         Ok(Index {
-            heads: vec![in alloc; 0; count]?,
+            heads: vec![in alloc; 0; places_for(count)]?,
             links: Vec::with_capacity(alloc, count)?,
         })
     }
 
     /// Adds a name, which has the next number.
     fn put(&mut self, name: &[u8])
-        requires places { length self.old.links.items < length self.old.heads.items }
+        requires places { 0 < length self.old.heads.items }
         requires room { vec_len self.old.links < vec_capacity self.old.links }
         requires few { length self.old.links.items + 1 < 2 ^ 32 }
         ensures heads { self.new.heads.items ≡ slice_set self.old.heads.items (place_of (length self.old.heads.items) name.now) (suc (length self.old.links.items)) }
@@ -59,14 +66,14 @@ impl Index {
         self.links.push_reserved(last);
     }
 
-    /// The index of the texts, with so many places. Errs only for want of memory.
+    /// The index of the texts, with room for so many. Errs only for want of memory.
     fn of(alloc: Global, texts: &Texts, count: usize) -> Result<Index, Memory>
         requires count { (0 < count) × (length texts.now ≤ count) }
         requires few { length texts.now < 2 ^ 32 }
         ensures index { IfOk result (λ index. IsIndex index.heads.items index.links.items texts.now) }
-        ensures places { IfOk result (λ index. length index.heads.items ≡ count) }
+        ensures places { IfOk result (λ index. 0 < length index.heads.items) }
     {
-        let mut index = Index::with_places(alloc, count)?;
+        let mut index = Index::with_room(alloc, count)?;
         for id in 0..texts.len() {
             index.put(texts.at(id));
         }
@@ -78,11 +85,11 @@ impl Index {
         requires index { IsIndex self.old.heads.items self.old.links.items texts.now }
         requires few { length texts.now < 2 ^ 32 }
         ensures index { IsIndex self.new.heads.items self.new.links.items texts.now }
-        ensures places { OnOk result (length self.new.links.items < length self.new.heads.items) }
+        ensures places { OnOk result (0 < length self.new.heads.items) }
         ensures room { OnOk result (vec_len self.new.links < vec_capacity self.new.links) }
     {
         let count = self.links.as_slice().len();
-        if count >= self.heads.as_slice().len() {
+        if are_full(self.heads.as_slice().len(), count) {
             let wider = Index::of(alloc, texts, 2 * count + 8)?;
             *self = wider;
         }
@@ -141,6 +148,23 @@ impl Index {
         }
         None
     }
+}
+
+/// How many places are enough for so many names.
+fn places_for(count: usize) -> usize
+    ensures { 0 < count → 0 < result }
+{
+    if count <= FEW {
+        return count;
+    }
+    FEW.max(count / SHARE)
+}
+
+/// Whether so many places are too few for one name more than there are.
+fn are_full(places: usize, count: usize) -> bool
+    ensures { result ≡ false → 0 < places }
+{
+    count >= places && (places < FEW || count / (2 * SHARE) >= places)
 }
 
 /// The place of a name among so many. Half of the hash is enough for the most that there are, and is divided in half the time.
