@@ -62,16 +62,23 @@ impl Names {
         }
     }
 
-    /// No names, with room for so many of so many bytes together. Errs only for want of memory.
+    /// No names, with a place for each of so many and room for so many bytes together. Errs only for want of memory.
     pub(crate) fn with_room(alloc: Global, count: usize, bytes: usize) -> Result<Names, Memory>
         ensures empty { IfOk result (λ names. names ≡ []) }
     {
         Ok(Names {
             texts: Texts::with_room(alloc, count, bytes)?,
-            index: Index::with_room(alloc, count)?,
+            index: Index::with_places(alloc, count, count)?,
             longest: 0,
             alloc,
         })
+    }
+
+    /// Keeps fewer places for many names, once all that were to come are there. Errs only for want of memory.
+    pub(crate) fn settle(&mut self) -> Result<(), Memory>
+        ensures same { self.new ≡ self.old }
+    {
+        self.index.settle(self.alloc, &self.texts)
     }
 
     /// How many names there are.

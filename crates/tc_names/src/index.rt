@@ -36,16 +36,15 @@ impl Index {
         }
     }
 
-    /// No names, with room for so many and places enough for them. Errs only for want of memory.
-    pub(crate) fn with_room(alloc: Global, count: usize) -> Result<Index, Memory>
-        ensures index { IfOk result (λ index. IsIndex index.heads.items index.links.items []) }
-        ensures places { IfOk result (λ index. 0 < count → 0 < length index.heads.items) }
+    /// No names, with so many places, and room for so many names. Errs only for want of memory.
+    pub(crate) fn with_places(alloc: Global, places: usize, count: usize) -> Result<Index, Memory>
+        ensures heads { IfOk result (λ index. index.heads.items ≡ replicate places 0) }
         ensures links { IfOk result (λ index. index.links.items ≡ []) }
         ensures len { IfOk result (λ index. vec_len index.links ≡ 0) }
         ensures room { IfOk result (λ index. count ≤ vec_capacity index.links) }
     {
         Ok(Index {
-            heads: vec![in alloc; 0; places_for(count)]?,
+            heads: vec![in alloc; 0; places]?,
             links: Vec::with_capacity(alloc, count)?,
         })
     }
@@ -66,14 +65,14 @@ impl Index {
         self.links.push_reserved(last);
     }
 
-    /// The index of the texts, with room for so many. Errs only for want of memory.
+    /// The index of the texts, with room for so many and places enough for them. Errs only for want of memory.
     fn of(alloc: Global, texts: &Texts, count: usize) -> Result<Index, Memory>
         requires count { (0 < count) × (length texts.now ≤ count) }
         requires few { length texts.now < 2 ^ 32 }
         ensures index { IfOk result (λ index. IsIndex index.heads.items index.links.items texts.now) }
         ensures places { IfOk result (λ index. 0 < length index.heads.items) }
     {
-        let mut index = Index::with_room(alloc, count)?;
+        let mut index = Index::with_places(alloc, places_for(count), count)?;
         for id in 0..texts.len() {
             index.put(texts.at(id));
         }
@@ -94,6 +93,20 @@ impl Index {
             *self = wider;
         }
         self.links.reserve(1)?;
+        Ok(())
+    }
+
+    /// Keeps fewer places where many names have more than enough. Errs only for want of memory.
+    pub(crate) fn settle(&mut self, alloc: Global, texts: &Texts) -> Result<(), Memory>
+        requires index { IsIndex self.old.heads.items self.old.links.items texts.now }
+        requires few { length texts.now < 2 ^ 32 }
+        ensures index { IsIndex self.new.heads.items self.new.links.items texts.now }
+    {
+        let count = texts.len();
+        if count > FEW && places_for(count) < self.heads.as_slice().len() {
+            let settled = Index::of(alloc, texts, count)?;
+            *self = settled;
+        }
         Ok(())
     }
 

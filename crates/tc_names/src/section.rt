@@ -69,6 +69,8 @@ fn names_in(alloc: Global, count: u32, bytes: &[u8]) -> Result<(Names, &[u8]), N
         }
         rest = after;
     }
+    // Each name was compared with those at its place, so each had a place of its own until now.
+    names.settle()?;
     Ok((names, rest))
 }
 

@@ -1,13 +1,13 @@
-use Rattle.std.proofs.Common.{◌≡◌, ◌+◌, ◌++◌, ◌∷◌, ◌∙◌, [], suc, length, take, subst, ap, arith}
-use Rattle.std.proofs.lemmas.List.{length-set, length_push, take_all}
+use Rattle.std.proofs.Common.{◌≡◌, ◌+◌, ◌++◌, ◌∷◌, ◌∙◌, ℕ, [], suc, length, take, subst, ap, arith}
+use Rattle.std.proofs.lemmas.List.{length-replicate, length-set, length_push, take_all}
 use Rattle.tc_names.specs.Linking.{place_of, IsIndex}
-use Rattle.tc_names.proofs.Found.{index-name, take-next}
+use Rattle.tc_names.proofs.Found.{index-none, index-name, take-next}
 use Rattle.tc_names.proofs.index.Index.of.Goals as goal
 
 pub loop-id-init : goal.loop-id-init
 loop-id-init c = record {
-  index = c.in_ok-index.ensures.index;
-  places = c.in_ok-index.ensures.places c.requires.count.0;
+  index = rw (c.in_ok-index.ensures.heads, c.in_ok-index.ensures.links) (index-none c.places_for.result);
+  places = omega (arith, ap length c.in_ok-index.ensures.heads, length-replicate {A = ℕ} c.places_for.result 0, c.places_for.ensures c.requires.count.0);
   many = ap length c.in_ok-index.ensures.links;
   len = c.in_ok-index.ensures.len;
   room = c.in_ok-index.ensures.room;
