@@ -3,7 +3,7 @@
 ghost use Rattle.std.specs.Prelude.{◌≡◌, ◌++◌, codes, OnOk, IfOk, IfSome, IsErrOf, map, false};
 ghost use Rattle.serde_json.specs.Data.{put};
 ghost use Rattle.serde_json.specs.Written.{compact_text, members_text};
-ghost use Rattle.tc_model.specs.Document.{Document};
+ghost use Rattle.tc_model.specs.Document.{Document, name_cmp};
 ghost use Rattle.tc_model.specs.Json.{members_data};
 ghost use Rattle.tc_model.specs.Tree.{members_of};
 ghost use Rattle.tc_request_model.specs.Reply.{with_id, count};
@@ -121,7 +121,7 @@ fn put_members_with_key(
             return sheet.put_byte(b'}');
         }
         let name = name_of(token.label, names);
-        match "id".cmp(name) {
+        match order_of_key(name) {
             Ordering::Less => {
                 sheet.put_key(later, key)?;
                 sheet.put_name(true, name)?;
@@ -142,4 +142,20 @@ fn put_members_with_key(
     }
     sheet.put_key(later, key)?;
     sheet.put_byte(b'}')
+}
+
+// How `id` stands to a name. Most names differ from it in their first byte, which costs less than a call.
+#[inline(always)]
+fn order_of_key(name: &str) -> Ordering
+    ensures { result ≡ name_cmp (codes "id") name.now }
+{
+    let bytes = name.as_bytes();
+    if !bytes.is_empty() && bytes[0] != b'i' {
+        return if b'i' < bytes[0] {
+            Ordering::Less
+        } else {
+            Ordering::Greater
+        };
+    }
+    "id".cmp(name)
 }
