@@ -1,6 +1,7 @@
 -- Text that was put, and text that waits behind it.
-use Rattle.std.proofs.Common.{◌≡◌, ◌∙◌, ◌+◌, ◌<◌, ◌≤◌, ℕ, List, [], ◌∷◌, ◌++◌, length, get_or, take, drop, map, arith, sym, ap, ap₂, append_assoc, length-take-le}
+use Rattle.std.proofs.Common.{◌≡◌, ◌∙◌, ◌+◌, ◌<◌, ◌≤◌, ℕ, List, [], ◌∷◌, ◌++◌, length, get_or, take, drop, map, arith, sym, ap, ap₂, append_assoc, length-take-le, take-take}
 use Rattle.std.proofs.lemmas.List.{drop_more, get_or-map, length-map}
+use Rattle.std.proofs.Math.Seq.{take-append-add}
 use Rattle.json.specs.Filled.{Placed}
 use Rattle.serde_json.specs.Written.{compact_text}
 use Rattle.tc_model.specs.Document.{Scalar, null}
@@ -47,6 +48,15 @@ room_behind bytes w len n waiting within room = omega (arith, ap length waiting,
 -- a text was written behind what waits
 pub placed_behind : (o w o' w' a b t : List ℕ) (i j : ℕ) → o' ++ w' ≡ o ++ w → take i a ≡ w' → Placed a b i t j → o' ++ take j b ≡ o ++ (w ++ t)
 placed_behind o w o' w' a b t i j same waiting put = ap (λ l. o' ++ l) (put.bytes ∙ ap (λ l. l ++ t) waiting) ∙ waits o w o' w' t same
+
+-- of a text that was written its first bytes
+pub placed_front : (a b t : List ℕ) (i j n : ℕ) → i ≤ length a → n ≤ length t → Placed a b i t j → Placed a b i (take n t) (i + n)
+placed_front a b t i j n within few put = record {
+  bytes = sym (take-take (i + n) j b (omega (arith, put.moved))) ∙ ap (take (i + n)) put.bytes
+      ∙ ap (λ k. take (k + n) (take i a ++ t)) (sym (length-take-le i a within)) ∙ take-append-add (take i a) t n;
+  moved = omega (arith, length-take-le n t few);
+  len = put.len;
+}
 
 -- a number behind the name of its member
 pub number_put : (o c q n : List ℕ) → (o ++ (c ++ (q ++ 58 ∷ []))) ++ n ≡ o ++ (c ++ (q ++ 58 ∷ n))

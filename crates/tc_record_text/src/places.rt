@@ -73,9 +73,9 @@ fn place_ends<const N: usize>(buf: &mut [u8], at: usize, text: &[u8]) -> usize
     place_front::<N>(buf, at + last, &text[last..])
 }
 
-// The first N bytes, by one load and one store.
+/// Writes the first N bytes of a text, by one load and one store.
 #[inline(always)]
-fn place_front<const N: usize>(buf: &mut [u8], at: usize, text: &[u8]) -> usize
+pub(crate) fn place_front<const N: usize>(buf: &mut [u8], at: usize, text: &[u8]) -> usize
     requires { (N ≤ length text.now) × (at + N ≤ length buf.old) }
     ensures { Placed buf.old buf.new at (take N text.now) result }
 {

@@ -9,7 +9,7 @@ ghost use Rattle.tc_model.specs.Json.{scalar_data};
 ghost use Rattle.tc_record.specs.Preorder.{scalar};
 ghost use Rattle.tc_record.specs.WalkView.{piece_of};
 
-use crate::places::{place_byte, place_comma, place_text};
+use crate::places::{place_byte, place_comma, place_front, place_text};
 use itoa::Buffer;
 use std::alloc::AllocError;
 use std::marker::Model;
@@ -96,7 +96,7 @@ impl Staged {
         ensures { OnOk result (out.new.items ++ self.new ≡ out.old.items ++ (self.old ++ take text.now.len text.now.bytes)) }
     {
         self.make_room(MOST_LABEL, out)?;
-        self.bytes[self.len..self.len + MOST_LABEL].copy_from_slice(&text.bytes);
+        place_front::<MOST_LABEL>(&mut self.bytes, self.len, &text.bytes);
         self.len += text.len as usize;
         Ok(())
     }
