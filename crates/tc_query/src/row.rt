@@ -90,11 +90,20 @@ fn row_of_path(
     if text.as_slice().is_empty() {
         return Ok(None);
     }
-    text.shrink_to_fit();
     Ok(Some(Row {
         id: key,
-        text: Bytes::of(text),
+        text: kept(alloc, text.as_slice())?,
     }))
+}
+
+/// A text in as much memory as it takes. Rows are kept until all are found, many of them: what is given back of the room of each
+/// would be too small to be of use.
+fn kept(alloc: Global, text: &[u8]) -> Result<Bytes, AllocError>
+    ensures { IfOk result (λ same. same ≡ text.now) }
+{
+    let mut same = Vec::with_capacity(alloc, text.len())?;
+    same.extend_from_slice(text)?;
+    Ok(Bytes::of(same))
 }
 
 /// Whether what an ask asks for is among the values that its path reaches, if it asks for one. Takes no memory.

@@ -22,10 +22,10 @@ returns c = λ d is.
     let ds = reached c.args.path.now d in
     let put = c.put_row.new.out.items in
     let whole : put ≡ row_texts (row_of None c.args.key ds) = c.in_ok-put_row.ensures d is ∙ ap (λ s. s ++ row_texts (row_of None c.args.key ds)) c.in_ok-text.ensures.items in
-    let kept : c.of.result ≡ put = c.of.ensures.same ∙ c.shrink_to_fit.ensures.items in
-    let some : c.of.result ≡ [] → ⊥ = λ none.
+    let kept : c.in_ok-kept.field-0 ≡ put = c.in_ok-kept.ensures ∙ c.as_slice-2.ensures.value in
+    let some : c.in_ok-kept.field-0 ≡ [] → ⊥ = λ none.
     let short = ap (λ (bytes : List ℕ). length bytes) (c.as_slice.ensures.value ∙ sym kept ∙ none) in
     let told = c.is_empty.ensures in
     let empty = c.if-is_empty.false in
     absurd (grind (arith, nat_tests)) in
-    one_put c.args.key ds c.of.result (kept ∙ whole) some
+    one_put c.args.key ds c.in_ok-kept.field-0 (kept ∙ whole) some
