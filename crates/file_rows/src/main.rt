@@ -66,6 +66,7 @@ fn answer_of(rt: HostRuntime, desk: &mut Desk, name: &str, argument: &str) -> Op
     match name {
         "called" => others::called(alloc, argument),
         "put" => others::put(rt, argument),
+        "fill" => others::fill(rt, argument),
         "show" => others::show(rt, argument),
         "folder" => others::folder(rt, argument),
         "link" => others::link(rt, argument),

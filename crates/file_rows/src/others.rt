@@ -24,6 +24,22 @@ pub(crate) fn put(rt: HostRuntime, argument: &str) -> Option<String> {
     word(rt.alloc(), "ok")
 }
 
+/// A file of so many bytes, which repeat a text: its path, a space, their number, a space, and the text.
+pub(crate) fn fill(rt: HostRuntime, argument: &str) -> Option<String> {
+    let (path, rest) = argument.split_once(' ')?;
+    let (count, text) = rest.split_once(' ')?;
+    let bytes = text.as_bytes();
+    if bytes.is_empty() {
+        return None;
+    }
+    let mut content = Vec::new(rt.alloc());
+    for at in 0..count.parse::<usize>().ok()? {
+        content.push(bytes[at % bytes.len()]).ok()?;
+    }
+    fs::write(&rt, path, content.as_slice()).ok()?;
+    word(rt.alloc(), "ok")
+}
+
 /// What a file holds.
 pub(crate) fn show(rt: HostRuntime, path: &str) -> Option<String> {
     fs::read_to_string(&rt, path).ok()

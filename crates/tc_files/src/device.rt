@@ -7,6 +7,7 @@ ghost use Rattle.tc_store.specs.Moments.{goes_on, FailsWriting};
 
 use crate::frozen::FileFrozen;
 use crate::watch::FileWatch;
+use std::alloc::Global;
 use std::fs::File;
 use std::io;
 use std::io::ErrorKind;
@@ -57,8 +58,8 @@ impl Drop for FileDevice {
 impl FileDevice {
     ghost use Rattle.tc_files.specs.Device.{device_name, device_size, has_failed};
 
-    /// The same file under the same handle, to be read. Makes no call.
-    pub(crate) fn into_frozen(self) -> FileFrozen
+    /// The same file under the same handle, to be read.
+    pub(crate) fn into_frozen(self, alloc: Global) -> FileFrozen
         ensures name { result.name ≡ device_name self }
         ensures size { result.len ≡ device_size self }
     {
@@ -73,12 +74,7 @@ impl FileDevice {
             is_named: _,
             has_failed: _,
         } = self;
-        FileFrozen {
-            name,
-            path,
-            file,
-            len,
-        }
+        FileFrozen::of(alloc, name, path, file, len)
     }
 
     /// Syncs the file, and at first its folder too. Makes no call once a sync failed.

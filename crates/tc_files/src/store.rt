@@ -79,12 +79,7 @@ impl FileStore {
         if len > MAX_LEN {
             return Err(ErrorKind::FileTooLarge.into());
         }
-        Ok(FileFrozen {
-            name,
-            path,
-            file,
-            len,
-        })
+        Ok(FileFrozen::of(alloc, name, path, file, len))
     }
 
     /// An empty file of a name, whose name is not durable yet.
@@ -156,11 +151,11 @@ impl Store for FileStore {
 
     fn freeze(
         &mut self,
-        _alloc: Global,
+        alloc: Global,
         device: FileDevice,
         _watch: &mut FileWatch,
     ) -> Result<FileFrozen, StoreFault> {
-        Ok(device.into_frozen())
+        Ok(device.into_frozen(alloc))
     }
 
     fn remove(&mut self, file: FileFrozen, watch: &mut FileWatch) -> Result<(), StoreFault> {
